@@ -1,0 +1,16 @@
+pub mod Choose
+pub mod Row
+pub mod Word
+pub mod Colex
+pub mod Rank
+pub mod Unrank
+pub mod HowMany
+pub mod Counted
+pub mod Next
+pub mod Shifted
+pub mod Positions
+pub mod Bits
+pub mod Digits
+pub mod CountedSets
+pub mod NextSet
+pub mod Examples

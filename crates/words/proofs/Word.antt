@@ -1,0 +1,26 @@
+-- The two families: what differs between them is said here, by cases, and everything else is said of both at once. Assumes nothing.
+--   step-up, step-of    a symbol may stand above another exactly if its shifted symbol is greater
+--   top-up, top-of    the highest symbol is below n exactly if its shifted symbol is in the shifted alphabet
+use Prim.Native.Nat.{ℕ, suc, _+_, _<_}
+use native.Mathlib.Omega.{arith}
+use Rattle.words.specs.declared.Family.{Family}
+use Rattle.words.specs.declared.Family.the-variants.{Forbidden, Allowed}
+use Rattle.words.specs.Word.{Step, shift, shiftedAlphabet}
+
+-- shifted symbols increase, and only those of a word do
+pub step-up : (F : Family) (i x y : ℕ) → Step F x y → x + shift F i < y + shift F (suc i)
+step-up Forbidden i x y h = omega arith
+step-up Allowed i x y h = omega arith
+
+pub step-of : (F : Family) (i x y : ℕ) → x + shift F i < y + shift F (suc i) → Step F x y
+step-of Forbidden i x y h = omega arith
+step-of Allowed i x y h = omega arith
+
+-- a symbol at the top of a word of i + 1
+pub top-up : (F : Family) (i n x : ℕ) → x < n → x + shift F i < shiftedAlphabet F n (suc i)
+top-up Forbidden i n x h = omega arith
+top-up Allowed i n x h = omega arith
+
+pub top-of : (F : Family) (i n x : ℕ) → x + shift F i < shiftedAlphabet F n (suc i) → x < n
+top-of Forbidden i n x h = omega arith
+top-of Allowed i n x h = omega arith

@@ -1,0 +1,12 @@
+pub mod Pick
+pub mod Choose
+pub mod Factorial
+pub mod Word
+pub mod Colex
+pub mod HowMany
+pub mod Rank
+pub mod Unrank
+pub mod Next
+pub mod Bits
+pub mod Inversions
+pub mod Row
