@@ -7,9 +7,10 @@ pub mod Unrank
 pub mod HowMany
 pub mod Counted
 pub mod Next
+pub mod Bits
+pub mod Ends
 pub mod Shifted
 pub mod Positions
-pub mod Bits
 pub mod Digits
 pub mod CountedSets
 pub mod NextSet

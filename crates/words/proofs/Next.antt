@@ -39,18 +39,18 @@ tight Allowed i x y e h = omega (arith, ltb-false x y e)
 
 -- ---- the lowest symbols weigh nothing
 
-reset-rank : (F : Family) (k : ℕ) (w : List ℕ) → rankFrom F 0 (reset F k w) ≡ rankFrom F k w
+pub reset-rank : (F : Family) (k : ℕ) (w : List ℕ) → rankFrom F 0 (reset F k w) ≡ rankFrom F k w
 unfolding reset rankFrom
 reset-rank F zero w = refl
 reset-rank F (suc k) w =
     omega (arith, reset-rank F k (base F k ∷ w), ap (λ (s : ℕ). choose s (suc k)) (base-shift F k), choose-few k (suc k) (le-refl (suc k)))
 
-reset-long : (F : Family) (k : ℕ) (w : List ℕ) → length (reset F k w) ≡ k + length w
+pub reset-long : (F : Family) (k : ℕ) (w : List ℕ) → length (reset F k w) ≡ k + length w
 unfolding reset
 reset-long F zero w = omega arith
 reset-long F (suc k) w = omega (arith, reset-long F k (base F k ∷ w))
 
-reset-monotone : (F : Family) (k : ℕ) (w : List ℕ) → Over F k k w → Monotone F w → Monotone F (reset F k w)
+pub reset-monotone : (F : Family) (k : ℕ) (w : List ℕ) → Over F k k w → Monotone F w → Monotone F (reset F k w)
 unfolding reset
 reset-monotone F zero w o m = m
 reset-monotone F (suc k) w o m =

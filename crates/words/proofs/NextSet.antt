@@ -19,18 +19,13 @@ use Rattle.words.specs.Pick.{pick}
 use Rattle.words.specs.Word.{Monotone}
 use Rattle.words.specs.Next.{reset, hasRoom, nextFrom, next}
 use Rattle.words.specs.Bits.{bitsOf, setBits}
-use Rattle.words.proofs.Bits.{From, from-le, rest, bits-of-set, set-bits-monotone, below-of-bits}
+use Rattle.words.proofs.Bits.{From, from-le, rest, reset-bits, bits-of-set, set-bits-monotone, below-of-bits}
 use Rattle.words.proofs.Digits.{multiple, first-trailing, set-bits-step}
 
 -- how many symbols follow x without a gap
 run : ℕ → List ℕ → ℕ
 run x [] = 0
 run x (y ∷ ys) = pick (hasRoom Forbidden x y) 0 (suc (run y ys))
-
-reset-bits : (k : ℕ) (w : List ℕ) → suc (bitsOf (reset Forbidden k w)) ≡ 2 ^ k + bitsOf w
-unfolding reset bitsOf
-reset-bits zero w = omega arith
-reset-bits (suc k) w = omega (arith, reset-bits k (k ∷ w))
 
 next-from-bits : (i x : ℕ) (xs : List ℕ) → Monotone Forbidden (x ∷ xs)
     → suc (bitsOf (nextFrom Forbidden i (x ∷ xs))) ≡ bitsOf (x ∷ xs) + 2 ^ x + 2 ^ (i + run x xs)

@@ -17,7 +17,7 @@ use Rattle.words.specs.Word.{Monotone, Below, Word, shift, shiftedAlphab
 use Rattle.words.specs.Rank.{rankFrom, rankOf}
 use Rattle.words.specs.Unrank.{greatest, top, fill, unrankOf}
 use Rattle.words.proofs.Choose.{choose-none, pascal, choose-few, choose-fewer, choose-grows, choose-reaches}
-use Rattle.words.proofs.Word.{step-of, top-of}
+use Rattle.words.proofs.Word.{step-of, top-of, shift-le}
 use Rattle.words.proofs.Rank.{rank-tells-words-apart, rank-below-count}
 
 -- ---- the greatest symbol that fits
@@ -59,10 +59,6 @@ top-rest : (i r : ℕ) → r - choose (top i r) (suc i) < choose (top i r) i
 top-rest i r = omega (arith, top-next i r, pascal (top i r) i, top-fits i r)
 
 -- the symbol: taking the shift off loses nothing
-shift-le : (F : Family) (i : ℕ) → shift F i ≤ i
-shift-le Forbidden i = zero-le
-shift-le Allowed i = le-refl i
-
 top-shift : (F : Family) (i r : ℕ) → (top i r - shift F i) + shift F i ≡ top i r
 top-shift F i r = sub-add-cancel (le-trans (shift-le F i) (top-most i r i (omega (arith, choose-few i (suc i) (le-refl (suc i))))))
 
@@ -127,7 +123,7 @@ pub rank-of-unrank : (F : Family) (n k r : ℕ) → r < count F n k → rankOf F
 unfolding rankFrom
 rank-of-unrank F n k r h = omega (arith, fill-rank F k r [] (shiftedAlphabet F n k) h)
 
--- each rank has a word over some below-n-exactly-when-rank-below-count, if a word has any symbols
+-- each rank has a word over some alphabet, if a word has any symbols
 far : (F : Family) (k r : ℕ) → r < count F (suc (r + k)) (suc k)
 far Forbidden k r = past k r
 far Allowed k r = lt-of-lt-of-le (past k r) (choose-grows (suc k) (omega arith))
@@ -152,13 +148,24 @@ unfolding rankFrom
 rank-of-unrank-below F [] r h = absurd (not-suc-le-zero h)
 rank-of-unrank-below F (x ∷ xs) r h = rank-of-unrank F (suc (r + length xs)) (suc (length xs)) r (far F (length xs) r)
 
--- the word of a rank is the same in every below-n-exactly-when-rank-below-count that is large enough, and it keeps to the first n symbols exactly if the rank is below their count
-pub below-n-exactly-when-rank-below-count : (F : Family) (n m k r : ℕ) → r < count F m k → Below n (unrankOf F k r) ↔ (r < count F n k)
-below-n-exactly-when-rank-below-count F n m k r h = (
-  λ b. subst (λ (x : ℕ). x < count F n k) (rank-of-unrank F m k r h)
-      (rank-below-count F n k (unrankOf F k r) (record { long = unrank-long F k r; monotone = unrank-monotone F k r; below = b })),
-  λ l. unrank-is-a-word F n k r l .below,
+-- a word over n is a rank below the count
+pub word-by-rank : (F : Family) (n k : ℕ) (w : List ℕ) → length w ≡ k → Monotone F w → rankOf F w < count F n k → Word F n k w
+word-by-rank F n k w e m h =
+    subst (Word F n k) (subst (λ (j : ℕ). unrankOf F j (rankOf F w) ≡ w) e (unrank-of-rank F w m)) (unrank-is-a-word F n k (rankOf F w) h)
+
+-- ---- a word keeps to the first n symbols exactly if its rank is below their count
+
+pub word-below-n-exactly-when-rank-below-count : (F : Family) (n k : ℕ) (w : List ℕ) → length w ≡ k → Monotone F w → Below n w ↔ (rankOf F w < count F n k)
+word-below-n-exactly-when-rank-below-count F n k w e m = (
+  λ b. rank-below-count F n k w (record { long = e; monotone = m; below = b }),
+  λ l. word-by-rank F n k w e m l .below,
 )
+
+-- the same of the word of a rank, which is one word in every alphabet m that has the rank
+pub below-n-exactly-when-rank-below-count : (F : Family) (n m k r : ℕ) → r < count F m k → Below n (unrankOf F k r) ↔ (r < count F n k)
+below-n-exactly-when-rank-below-count F n m k r h =
+    subst (λ (x : ℕ). Below n (unrankOf F k r) ↔ (x < count F n k)) (rank-of-unrank F m k r h)
+    (word-below-n-exactly-when-rank-below-count F n k (unrankOf F k r) (unrank-long F k r) (unrank-monotone F k r))
 
 -- ---- a step of the descent, for a program that finds the symbol by itself
 
