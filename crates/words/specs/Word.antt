@@ -39,17 +39,19 @@ abbrev pub shift : Family → ℕ → ℕ
 shift Forbidden i = 0
 shift Allowed i = i
 
--- the first symbol of the list stands at position i
+-- f of each symbol and its position; the first symbol of the list stands at position i
+abbrev pub eachFrom : (ℕ → ℕ → ℕ) → ℕ → List ℕ → List ℕ
+eachFrom f i [] = []
+eachFrom f i (x ∷ xs) = f x i ∷ eachFrom f (suc i) xs
+
 abbrev pub shiftedFrom : Family → ℕ → List ℕ → List ℕ
-shiftedFrom F i [] = []
-shiftedFrom F i (x ∷ xs) = (x + shift F i) ∷ shiftedFrom F (suc i) xs
+shiftedFrom F i w = eachFrom (λ x j. x + shift F j) i w
 
 abbrev pub shifted : Family → List ℕ → List ℕ
 shifted F w = shiftedFrom F 0 w
 
 abbrev pub unshiftedFrom : Family → ℕ → List ℕ → List ℕ
-unshiftedFrom F i [] = []
-unshiftedFrom F i (x ∷ xs) = (x - shift F i) ∷ unshiftedFrom F (suc i) xs
+unshiftedFrom F i s = eachFrom (λ x j. x - shift F j) i s
 
 abbrev pub unshifted : Family → List ℕ → List ℕ
 unshifted F s = unshiftedFrom F 0 s
