@@ -1,5 +1,6 @@
 pub mod Choose
 pub mod Row
+pub mod Factorial
 pub mod Word
 pub mod Colex
 pub mod Rank
@@ -14,4 +15,5 @@ pub mod Positions
 pub mod Digits
 pub mod CountedSets
 pub mod NextSet
+pub mod Inversions
 pub mod Examples
