@@ -1,7 +1,8 @@
--- T1 and T2 on numbers: how many numbers of n digits have k ones, and what the rank of a set is: how many smaller numbers have as many ones. Assumes nothing.
-use mathlib.Core.Path.{_≡_, refl, sym, ap, subst, _∙_}
-use Prim.Native.Nat.{ℕ, _+_, _^_, _≤_, _<_}
-use native.Mathlib.Nat.{lt-trans}
+-- What the coefficient and the rank count, on numbers in place of words. Assumes nothing.
+--   choose-is-how-many-sets    of the numbers of n binary digits, choose n k have k ones
+--   rank-is-how-many-smaller-sets    the rank of a set is how many smaller numbers have as many ones
+use mathlib.Core.Path.{_≡_, sym, ap, subst, _∙_}
+use Prim.Native.Nat.{ℕ, _^_, _<_}
 use native.Mathlib.Omega.{arith}
 use mathlib.Core.List.{List}
 use lib.ListN.{length}

@@ -1,23 +1,28 @@
 -- What an algorithm on the digits needs: the lowest set digit is the first symbol, clearing it leaves the rest, and a number of two halves is the two lists in a row.
 -- All at any width. Assumes nothing.
+--   multiple    a number whose digits stand at position i or above is a multiple of 2 ^ i
+--   first-trailing, first-cleared    the first symbol is the number of zeros below it, and a & (a - 1) has the others
+--   set-bits-zero, set-bits-step    the loop over the ones of a number, lowest first: how it ends, and one turn
+--   set-bits-halves    the ones of a * 2 ^ k + r are those of r, followed by those of a raised by k
+--   set-bits-word    the ones of a number below 2 ^ n are a word over n
+--   rank-set-zero, rank-turn, ones-turn    the loop that ranks a set: how it ends, one turn, and one digit fewer
+--   set-bits-add    a digit below all that are set becomes the first symbol
 use mathlib.Core.Path.{_≡_, refl, sym, ap, ap₂, subst, _∙_}
-use mathlib.Core.Logic.{_↔_, _⊎_, inl, inr}
 use mathlib.Core.List.{List, [], _∷_, _++_, map}
-use Prim.Native.Nat.{ℕ, zero, suc, _+_, _-_, _*_, _/_, _%_, _^_, _≤_, _<_, zero-le, suc-le-suc, min}
-use native.Mathlib.Nat.{le-refl, le-of-suc-le-suc, not-suc-le-zero, sub-add-cancel, pow-zero, pow-succ', mul-one, one-mul, mul-zero, zero-mul, add-zero, mul-comm, mul-assoc}
+use Prim.Native.Nat.{ℕ, zero, suc, _+_, _-_, _*_, _/_, _%_, _^_, _<_, min}
+use native.Mathlib.Nat.{le-of-suc-le-suc, not-suc-le-zero, sub-add-cancel, pow-succ', zero-mul, add-zero}
 use native.Mathlib.Omega.{arith}
 use lib.ListN.{length}
-use lib.Pow.{pow-pos, pow-mono, pow-add}
+use lib.Pow.{pow-pos, pow-add}
 use lib.Bits.{bitAnd, and-block, and-step, and-self, and-zero-l, shifted-half, shifted-even}
 use lib.Count.{trailingZeros, under, ones}
 use native.Mathlib.Numerals.{add-one}
-use Rattle.words.specs.declared.Family.{Family}
-use Rattle.words.specs.declared.Family.the-variants.{Forbidden, Allowed}
+use Rattle.words.specs.declared.Family.the-variants.{Forbidden}
 use Rattle.words.specs.Choose.{choose}
 use Rattle.words.specs.Word.{Monotone, Below, Word}
 use Rattle.words.specs.Rank.{rankFrom}
-use Rattle.words.specs.Bits.{bitsOf, ifSet, onesFrom, setBits}
-use Rattle.words.proofs.Bits.{From, in-front, from-le, rest, tail, bits-of-set, set-of-bits, set-bits-monotone, set-bits-long, below-of-bits}
+use Rattle.words.specs.Bits.{bitsOf, onesFrom, setBits}
+use Rattle.words.proofs.Bits.{From, in-front, rest, tail, bits-of-set, set-of-bits, set-bits-monotone, set-bits-long, below-of-bits}
 
 -- digits from position i up are a multiple of 2 ^ i
 pub multiple : (i : ℕ) (w : List ℕ) → From i w → (m : ℕ) × (bitsOf w ≡ m * 2 ^ i)
@@ -96,7 +101,7 @@ set-bits-step k a p h = go (setBits a) refl
         let v : bitsOf (x ∷ xs) ≡ a = sym (ap bitsOf e) ∙ bits-of-set a in
         let l : x < k = below-of-bits k (x ∷ xs) (subst (λ (b : ℕ). b < 2 ^ k) (sym v) h) .0 in
         e
-        ∙ ap₂ (λ (y : ℕ) (ys : List ℕ). y ∷ ys) (sym (first-trailing k x xs m l) ∙ ap (trailingZeros k) v)
+        ∙ ap₂ _∷_ (sym (first-trailing k x xs m l) ∙ ap (trailingZeros k) v)
         (sym (set-of-bits xs (tail x xs m)) ∙ ap setBits (sym (first-cleared x xs m) ∙ ap (λ (b : ℕ). bitAnd b (b - 1)) v))
 
 pub set-bits-zero : setBits 0 ≡ []

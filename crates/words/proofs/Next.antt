@@ -1,27 +1,29 @@
 -- The next word: its rank is one more, so it is later, and nothing lies between. Assumes nothing.
+--   reset-rank, reset-long, reset-monotone    the lowest symbols below w weigh nothing, are k more, and leave a word
+--   next-long, next-monotone, next-rank    the next word has the same length, is a word, and its rank is one more
+--   next-is-later, nothing-between-word-and-next    it is later in colex order, and no word lies between
+--   next-is-a-word    over n, a word whose rank is not the greatest has its next word over n
 use mathlib.Core.Path.{_≡_, refl, sym, ap, subst, _∙_}
 use mathlib.Core.Bool.{Bool, true, false}
 use mathlib.Core.List.{List, [], _∷_}
-use Prim.Native.Nat.{ℕ, zero, suc, _+_, _-_, _≤_, _<_, zero-le}
+use Prim.Native.Nat.{ℕ, zero, suc, _+_, _≤_, _<_, zero-le}
 use native.Mathlib.Nat.{suc-add, le-refl, not-suc-le-zero}
 use native.Mathlib.Omega.{arith}
 use borrow.Author.Tests.{ltb-true, ltb-false}
-use lib.Dec.{ltb}
 use lib.ListN.{length}
 use Rattle.words.specs.declared.Family.{Family}
 use Rattle.words.specs.declared.Family.the-variants.{Forbidden, Allowed}
 use Rattle.words.specs.Choose.{choose}
 use Rattle.words.specs.Pick.{pick}
-use Rattle.words.specs.Word.{Step, Monotone, Below, Word, shift, count}
+use Rattle.words.specs.Word.{Step, Monotone, Word, shift, count}
 use Rattle.words.specs.Colex.{ColexLt}
 use Rattle.words.specs.Rank.{rankFrom, rankOf}
-use Rattle.words.specs.Unrank.{unrankOf}
 use Rattle.words.specs.Next.{base, reset, hasRoom, nextFrom, next}
 use Rattle.words.proofs.Choose.{choose-none, pascal, choose-few}
 use Rattle.words.proofs.Word.{step-up}
 use Rattle.words.proofs.Colex.{to-colex, from-colex}
-use Rattle.words.proofs.Rank.{rank-rises, rank-tells-words-apart, before-of-rank}
-use Rattle.words.proofs.Unrank.{Over, joined, unrank-is-a-word, rank-of-unrank, unrank-long}
+use Rattle.words.proofs.Rank.{rank-rises, before-of-rank}
+use Rattle.words.proofs.Unrank.{Over, joined, word-by-rank}
 
 -- ---- the two families
 
@@ -118,12 +120,6 @@ nothing-between-word-and-next F w u h m l a b =
 
 -- over an alphabet of n, each word but the last has a next one
 pub next-is-a-word : (F : Family) (n k : ℕ) (w : List ℕ) → 0 < k → Word F n k w → suc (rankOf F w) < count F n k → Word F n k (next F w)
-next-is-a-word F n k w p h l = subst (Word F n k) same (unrank-is-a-word F n k (suc (rankOf F w)) l)
-  where
-    e : rankOf F (next F w) ≡ suc (rankOf F w)
-    e = next-rank F w (subst (λ (j : ℕ). 0 < j) (sym (h .long)) p) (h .monotone)
-
-    same : unrankOf F k (suc (rankOf F w)) ≡ next F w
-    same =
-        rank-tells-words-apart F (unrankOf F k (suc (rankOf F w))) (next F w) (unrank-is-a-word F n k (suc (rankOf F w)) l .monotone) (next-monotone F w (h .monotone))
-        (unrank-long F k (suc (rankOf F w)) ∙ sym (next-long F w ∙ h .long)) (rank-of-unrank F n k (suc (rankOf F w)) l ∙ sym e)
+next-is-a-word F n k w p h l =
+    word-by-rank F n k (next F w) (next-long F w ∙ h .long) (next-monotone F w (h .monotone))
+    (subst (λ (r : ℕ). r < count F n k) (sym (next-rank F w (subst (λ (j : ℕ). 0 < j) (sym (h .long)) p) (h .monotone))) l)

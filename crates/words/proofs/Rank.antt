@@ -6,9 +6,9 @@
 --   rank-tells-words-apart    two words of one length with one rank are the same word
 --   rank-below-count    the rank of a word is below the count
 use mathlib.Core.Path.{_≡_, ap, subst}
-use mathlib.Core.Logic.{_⊎_, inl, inr}
+use mathlib.Core.Logic.{inl, inr}
 use mathlib.Core.List.{List, [], _∷_}
-use Prim.Native.Nat.{ℕ, zero, suc, _+_, _≤_, _<_}
+use Prim.Native.Nat.{ℕ, suc, _+_, _≤_, _<_}
 use native.Mathlib.Omega.{arith}
 use lib.ListN.{length}
 use Rattle.words.specs.declared.Family.{Family}

@@ -1,9 +1,19 @@
 -- The greedy descent finds the word of a rank. Assumes nothing.
-use mathlib.Core.Path.{_≡_, refl, sym, ap, subst, _∙_}
+--   Over F i c w    the shifted symbols of w, which begins at position i, are c or above
+--   joined    a symbol whose shifted symbol is below c can stand in front of such a word
+--   unrank-long, unrank-monotone    the word of a rank has k symbols, and is one of the family
+--   unrank-is-a-word    for a rank below the count, it is a word over n
+--   rank-of-unrank, unrank-of-rank    rank and word lead back to each other
+--   rank-of-unrank-below    a number below the rank of a word is a rank
+--   word-by-rank    a word whose rank is below the count for n is one over n
+--   word-below-n-exactly-when-rank-below-count    a word keeps to the first n symbols exactly if its rank is below their count
+--   below-n-exactly-when-rank-below-count    the same of the word of a rank, which no alphabet changes
+--   top-is, fill-step, fill-done    the descent step by step, for a program that finds each symbol by itself
+use mathlib.Core.Path.{_≡_, refl, ap, subst}
 use mathlib.Core.Logic.{_↔_}
 use mathlib.Core.Bool.{Bool, true, false}
 use mathlib.Core.List.{List, [], _∷_}
-use Prim.Native.Nat.{ℕ, zero, suc, _+_, _-_, _≤_, _<_, zero-le, suc-le-suc}
+use Prim.Native.Nat.{ℕ, zero, suc, _+_, _-_, _≤_, _<_}
 use native.Mathlib.Nat.{le-refl, not-suc-le-zero, le-trans, suc-add, sub-add-cancel, le-of-suc-le-suc, lt-of-le-of-lt, lt-of-not-le, lt-of-lt-of-le, lt-irrefl}
 use native.Mathlib.Omega.{arith}
 use borrow.Author.Tests.{leb-true, leb-false}
