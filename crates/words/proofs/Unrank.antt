@@ -158,7 +158,7 @@ unfolding rankFrom
 rank-of-unrank-below F [] r h = absurd (not-suc-le-zero h)
 rank-of-unrank-below F (x ∷ xs) r h = rank-of-unrank F (suc (r + length xs)) (suc (length xs)) r (far F (length xs) r)
 
--- a word over n is a rank below the count
+-- a word whose rank is below the count for n is one over n
 pub word-by-rank : (F : Family) (n k : ℕ) (w : List ℕ) → length w ≡ k → Monotone F w → rankOf F w < count F n k → Word F n k w
 word-by-rank F n k w e m h =
     subst (Word F n k) (subst (λ (j : ℕ). unrankOf F j (rankOf F w) ≡ w) e (unrank-of-rank F w m)) (unrank-is-a-word F n k (rankOf F w) h)
