@@ -13,4 +13,5 @@ pub mod Bits
 pub mod Digits
 pub mod CountedSets
 pub mod NextSet
+pub mod SetLaws
 pub mod Examples
