@@ -14,4 +14,5 @@ pub mod Digits
 pub mod CountedSets
 pub mod NextSet
 pub mod SetLaws
+pub mod Members
 pub mod Examples
