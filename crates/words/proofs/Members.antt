@@ -2,7 +2,7 @@
 --   in-set-is-digit    s is a symbol of a exactly if digit s of a is 1
 --   in-and, in-or    a & b has the symbols of both, a | b those of either
 --   in-complement    the complement in n digits has the numbers below n that are no symbols of a
---   and-zero-is-disjoint    a & b is 0 exactly if no symbol is in both
+--   and-zero-is-disjoint    a & b is 0 exactly if no symbol is in both (then a | b is a + b, by `or-disjoint` of lib.Bits)
 --   same-members    two words without repeats that have the same symbols are equal
 use mathlib.Core.Path.{_≡_, refl, sym, ap, ap₂, subst, _∙_}
 use mathlib.Core.Logic.{_↔_, _⊎_, inl, inr, Iff·trans, Iff·symm, Iff·and, ⊎-elim, ⊎-map}

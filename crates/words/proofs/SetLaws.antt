@@ -1,15 +1,18 @@
 -- What arithmetic on a number does to its set, as a list. All at any width. Assumes nothing.
+--   raised n w    every symbol raised by n
 --   set-bits-split    the set of a is that of a % 2 ^ n, and above it that of a / 2 ^ n, raised by n
 --   set-bits-times    a * 2 ^ n has the symbols of a, each raised by n
+--   mod-below    the symbols of a % 2 ^ n are below n
 --   how-many-below    a % 2 ^ n has as many symbols as a has below n
 --   set-bits-mod    they are those: the first so many
 --   set-bits-div    a / 2 ^ n has the others, each lowered by n
+--   position-is-how-many-below    the symbol at position p has p symbols below it
 --   set-bits-ones    2 ^ n - 1 has the numbers below n
 --   lowest-symbol, without-lowest    the trailing zeros are the first symbol, and a & (a - 1) has the others
 use mathlib.Core.Path.{_≡_, refl, sym, ap, ap₂, subst, _∙_}
 use mathlib.Core.List.{List, [], _∷_, _++_, map}
-use Prim.Native.Nat.{ℕ, zero, suc, _+_, _-_, _*_, _/_, _%_, _^_, _<_}
-use native.Mathlib.Nat.{le-refl, mod-lt, add-zero}
+use Prim.Native.Nat.{ℕ, zero, suc, _+_, _-_, _*_, _/_, _%_, _^_, _≤_, _<_}
+use native.Mathlib.Nat.{le-refl, not-suc-le-zero, mod-lt, add-zero}
 use native.Mathlib.Omega.{arith}
 use borrow.Author.Tests.{lt-ltb, le-ltb}
 use lib.ListN.{length, getD, take, drop}
@@ -18,11 +21,11 @@ use lib.Pow.{pow-pos, split}
 use lib.Bits.{bitAnd, and-zero-l}
 use lib.Count.{trailingZeros, trailing-of-zero}
 use Rattle.words.specs.declared.Family.the-variants.{Forbidden}
-use Rattle.words.specs.Word.{Below}
+use Rattle.words.specs.Word.{Monotone, Below}
 use Rattle.words.specs.Next.{reset, first}
 use Rattle.words.specs.Bits.{onesFrom, setBits}
 use Rattle.words.specs.Inversions.{smallerIn}
-use Rattle.words.proofs.Bits.{From, from-le, bits-of-set, below-of-bits}
+use Rattle.words.proofs.Bits.{From, from-le, rest, tail, bits-of-set, below-of-bits}
 use Rattle.words.proofs.Digits.{set-bits-step, set-bits-zero, set-bits-halves, set-bits-add, raised-from}
 
 -- ---- the symbols below n, and those from n up
@@ -64,6 +67,20 @@ set-bits-div n a =
     sym (lowered-raised n (setBits (a / 2 ^ n)))
     ∙ sym (ap (λ (w : List ℕ). map (λ x. x - n) (drop (smallerIn n (setBits a)) w)) (set-bits-split n a)
     ∙ ap (map (λ x. x - n)) (drop-at (setBits (a % 2 ^ n)) (raised n (setBits (a / 2 ^ n))) (smallerIn n (setBits a)) (sym (how-many-below n a))))
+
+from-at : (n : ℕ) (w : List ℕ) (p d : ℕ) → From n w → p < length w → n ≤ getD w p d
+from-at n [] p d f h = absurd (not-suc-le-zero h)
+from-at n (x ∷ xs) zero d f h = f .0
+from-at n (x ∷ xs) (suc p) d f h = from-at n xs p d (f .1) (omega arith)
+
+pub position-is-how-many-below : (w : List ℕ) (p d : ℕ) → Monotone Forbidden w → p < length w → smallerIn (getD w p d) w ≡ p
+unfolding smallerIn
+position-is-how-many-below [] p d m h = absurd (not-suc-le-zero h)
+position-is-how-many-below (x ∷ xs) zero d m h =
+    smaller-below-from x [] (x ∷ xs) tt (le-refl x, from-le (suc x) x xs (omega arith) (rest x xs m))
+position-is-how-many-below (x ∷ xs) (suc p) d m h =
+    let l : x < getD xs p d = from-at (suc x) xs p d (rest x xs m) (omega arith) in
+    simp (lt-ltb x (getD xs p d) l) (omega (arith, position-is-how-many-below xs p d (tail x xs m) (omega arith)))
 
 -- ---- the numbers below n
 
