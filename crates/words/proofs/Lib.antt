@@ -12,7 +12,7 @@ pub mod Positions
 pub mod Bits
 pub mod Digits
 pub mod CountedSets
-pub mod NextSet
 pub mod SetLaws
 pub mod Members
+pub mod NextSet
 pub mod Examples
