@@ -125,7 +125,7 @@ raised-monotone k [] m = tt
 raised-monotone k (x ∷ []) m = tt
 raised-monotone k (x ∷ y ∷ ys) m = (omega (arith, m .0), raised-monotone k (y ∷ ys) (m .1))
 
-raised-from : (k : ℕ) (w : List ℕ) → From k (map (λ x. x + k) w)
+pub raised-from : (k : ℕ) (w : List ℕ) → From k (map (λ x. x + k) w)
 raised-from k [] = tt
 raised-from k (x ∷ xs) = (omega arith, raised-from k xs)
 

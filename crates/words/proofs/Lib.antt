@@ -14,6 +14,8 @@ pub mod Shifted
 pub mod Positions
 pub mod Digits
 pub mod CountedSets
+pub mod SetLaws
+pub mod Members
 pub mod NextSet
 pub mod Inversions
 pub mod Examples
