@@ -8,7 +8,7 @@ use Rattle.count.proofs.binomial.Statement.{statement}
 use Rattle.count.proofs.binomial.Tie as tie
 
 returns : tie.Need-returns
-returns c = simp (lt-leb _ _ (c .if1 .taken))
+returns c = simp (lt-leb (c .before .args .n) 64 (omega arith))
 
 at-requires : tie.Need-at-requires
 at-requires c κs = search needs
