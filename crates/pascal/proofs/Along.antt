@@ -2,8 +2,8 @@
 --   Along n i c    from c = choose n i: the step's two products fit, and their sum is choose n (i + 1)
 --   along    so it is, up to row 64
 use mathlib.Core.Path.{_≡_, sym, ap, _∙_}
-use Prim.Native.Nat.{ℕ, suc, _+_, _-_, _*_, _/_, _%_, _^_, _≤_, _<_}
-use native.Mathlib.Nat.{add-mul, div-add-mod', div-eq-of-eq-mul-right, mul-add-div-right, mul-le-mul, mod-lt}
+use Prim.Native.Nat.{ℕ, _+_, _-_, _*_, _/_, _%_, _^_, _≤_, _<_}
+use native.Mathlib.Nat.{div-add-mod', div-eq-of-eq-mul-right, mul-add-div-right, mul-le-mul, mod-lt}
 use native.Mathlib.Numerals.{add-one}
 use native.Mathlib.Omega.{arith}
 use Rattle.words.specs.Choose.{choose}
