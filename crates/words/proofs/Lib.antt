@@ -11,6 +11,7 @@ pub mod Shifted
 pub mod Positions
 pub mod Bits
 pub mod Digits
+pub mod Complement
 pub mod CountedSets
 pub mod NextSet
 pub mod Examples
