@@ -13,6 +13,7 @@ pub mod Ends
 pub mod Shifted
 pub mod Positions
 pub mod Digits
+pub mod Complement
 pub mod CountedSets
 pub mod SetLaws
 pub mod Members
