@@ -2,7 +2,7 @@
 // Each `match` compiles to one table. A row above 64 has no entry here, and the caller keeps it out, since a test would cost as much as the table.
 ghost use mathlib.Core.Path.{_≡_};
 ghost use Prim.Native.Nat.{_≤_};
-ghost use Rattle.words.specs.Row.{entry};
+ghost use Rattle.pascal.specs.Row.{entry};
 
 pub fn column_13(n: u64) -> u64
     requires { ⌜ n ≤ 64 ⌝ }

@@ -1,7 +1,7 @@
 // Binomial coefficients up to row 64 and factorials up to 20! (document 01, "Terms and their order" and "Permutations").
 ghost use mathlib.Core.Path.{_≡_};
 ghost use Prim.Native.Nat.{_≤_};
-ghost use Rattle.words.specs.Row.{entry};
+ghost use Rattle.pascal.specs.Row.{entry};
 ghost use Rattle.count.specs.Binomial.{binomialOf};
 ghost use Rattle.count.specs.Factorial.{factorialOf, Factorials};
 
