@@ -1,5 +1,5 @@
 // Columns 13 to 32 of Pascal's triangle (DLMF 26.3), row n of column k holding binomial(n, k). Made by tools/columns.py.
-// Each `match` compiles to one table. A row above 64 has no entry here, and the caller keeps it out, since a test would cost as much as the table.
+// Each `match` compiles to one table. A row above 64 has no entry here, and the caller keeps it out, since a test would cost as much as the look-up.
 ghost use mathlib.Core.Path.{_≡_};
 ghost use Prim.Native.Nat.{_≤_};
 ghost use Rattle.words.specs.Row.{entry};

@@ -5,7 +5,7 @@ ghost use Rattle.words.specs.Row.{entry};
 ghost use Rattle.count.specs.Binomial.{binomialOf};
 ghost use Rattle.count.specs.Factorial.{factorialOf, Factorials};
 
-// r stands in row n of column j, and k is j.
+// r, the entry at place j of row n, is the one at place k, since k is j.
 fn in_column(r: u64, n: u64, j: u64, k: u64) -> u64
     requires { ⌜ (r ≡ entry n j) × (k ≡ j) ⌝ }
     ensures { λ x. ⌜ x ≡ entry n k ⌝ }
@@ -64,7 +64,7 @@ fn nearer(n: u64, k: u64) -> u64
     if 32 < k { n - k } else { k }
 }
 
-// The entry at place k of row n.
+// The entry at place k of row n. The caller keeps the row to 64: in a loop over symbols a test would cost speed.
 pub fn at(n: u64, k: u64) -> u64
     requires { ⌜ n ≤ 64 ⌝ }
     ensures { λ r. ⌜ r ≡ entry n k ⌝ }
@@ -85,7 +85,7 @@ pub fn binomial(n: u64, k: u64) -> u64
     at(n, k)
 }
 
-// The factorials 0! to 20!, each the index times the one before.
+// The factorials 0! to 20!, each the index times the one before. A constant array is rebuilt on the stack at each use.
 const FACTORIALS: [u64; 21] = [
     1,
     1,
@@ -110,7 +110,7 @@ const FACTORIALS: [u64; 21] = [
     2432902008176640000,
 ];
 
-// The table. A constant array is laid down anew wherever it is used, so a loop takes it once, before it begins.
+// The table, for a loop to take into a local once, before it begins.
 pub fn factorials() -> [u64; 21]
     ensures { λ r. ⌜ Factorials r ⌝ }
 {
