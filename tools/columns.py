@@ -1,5 +1,5 @@
 #!/usr/bin/env python3
-"""Writes crates/columns_low and crates/columns_high: the columns 1 to 32 of Pascal's triangle, rows 0 to 64 of each.
+"""Writes crates/columns_low and crates/columns_high: the columns 1 to 16 and 17 to 32 of Pascal's triangle, rows 0 to 64 of each.
 
 Run it at the repository's root: python3 tools/columns.py. Run again, it changes nothing; nor does `rt fmt` after it.
 """
@@ -33,5 +33,5 @@ ghost use Rattle.words.specs.Row.{{entry}};
         f.write(text + "".join(column(k) for k in range(first, last + 1)))
 
 
-crate("columns_low", 1, 12)
-crate("columns_high", 13, 32)
+crate("columns_low", 1, 16)
+crate("columns_high", 17, 32)
