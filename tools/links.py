@@ -10,7 +10,7 @@ def link(i):
     columns = "columns_low" if i < 16 else "columns_high"
     onward = f"from_{i + 1}" if i + 1 < LINKS else f"after_{LINKS}"
     return f"""
-pub fn from_{i}(a: u64, sum: u64) -> u64
+{"" if i else "pub "}fn from_{i}(a: u64, sum: u64) -> u64
     requires {{ ⌜ Weighs {i} a sum ⌝ }}
     ensures {{ λ r. ⌜ r ≡ sum + weight {i} a ⌝ }}
 {{
