@@ -13,6 +13,7 @@ use Rattle.words.specs.declared.Family.{Family}
 use Rattle.words.specs.declared.Family.the-variants.{Forbidden, Allowed}
 use Rattle.words.specs.Word.{Monotone, Below}
 use Rattle.words.specs.Colex.{ColexLt}
+use Rattle.words.specs.Next.{reset}
 use Rattle.words.specs.Bits.{bitsOf, ifSet, onesFrom, setBits}
 use Rattle.words.proofs.Colex.{Before, Compared, less, same, more, compare, to-colex, from-colex}
 
@@ -61,6 +62,13 @@ unfolding bitsOf
 below-of-bits n [] h = tt
 below-of-bits n (x ∷ xs) h =
     (lt-of-not-le (λ l. not-le-of-lt h (le-trans (pow-mono l) (omega arith))), below-of-bits n xs (omega arith))
+
+-- ---- the k lowest digits, below those of w
+
+pub reset-bits : (k : ℕ) (w : List ℕ) → suc (bitsOf (reset Forbidden k w)) ≡ 2 ^ k + bitsOf w
+unfolding reset bitsOf
+reset-bits zero w = omega arith
+reset-bits (suc k) w = omega (arith, reset-bits k (k ∷ w))
 
 -- ---- the positions of the ones
 

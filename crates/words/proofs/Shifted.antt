@@ -16,7 +16,7 @@ use Rattle.words.specs.Unrank.{unrankOf}
 use Rattle.words.proofs.Word.{step-up, step-of, top-up, top-of}
 use Rattle.words.proofs.Colex.{Before, to-colex, from-colex}
 use Rattle.words.proofs.Rank.{rank-below-count}
-use Rattle.words.proofs.Unrank.{unrank-is-a-word, unrank-of-rank}
+use Rattle.words.proofs.Unrank.{word-by-rank}
 
 -- the rank is that of the shifted word
 rank-from-shifted : (F : Family) (i : ℕ) (w : List ℕ) → rankFrom F i w ≡ rankFrom Forbidden i (shiftedFrom F i w)
@@ -76,11 +76,6 @@ colex-shifted F u v = (
   λ c. to-colex (shifted F u) (shifted F v) (before-shifted F 0 u v (from-colex u v c)),
   λ c. to-colex u v (before-of-shifted F 0 u v (from-colex (shifted F u) (shifted F v) c)),
 )
-
--- a word over an alphabet is one of the ranks below its count
-pub word-by-rank : (F : Family) (n k : ℕ) (w : List ℕ) → length w ≡ k → Monotone F w → rankOf F w < count F n k → Word F n k w
-word-by-rank F n k w e m h =
-    subst (Word F n k) (subst (λ (j : ℕ). unrankOf F j (rankOf F w) ≡ w) e (unrank-of-rank F w m)) (unrank-is-a-word F n k (rankOf F w) h)
 
 -- the words of k symbols over n are the shifted ones over the shifted alphabet
 pub word-shifted : (F : Family) (n k : ℕ) (w : List ℕ) → Word F n k w ↔ Word Forbidden (shiftedAlphabet F n k) k (shifted F w)
