@@ -77,9 +77,9 @@ abbrev pub From : ℕ → List ℕ → Type 0
 From i [] = Unit {0}
 From i (x ∷ xs) = (i ≤ x) × From i xs
 
-from-down : (i : ℕ) (w : List ℕ) → From (suc i) w → From i w
-from-down i [] f = tt
-from-down i (x ∷ xs) f = (omega (arith, f .0), from-down i xs (f .1))
+pub from-le : (a b : ℕ) (w : List ℕ) → b ≤ a → From a w → From b w
+from-le a b [] l f = tt
+from-le a b (z ∷ zs) l f = (omega (arith, f .0), from-le a b zs l (f .1))
 
 ones-from : (d i a : ℕ) → From i (onesFrom d i a)
 unfolding onesFrom
@@ -87,8 +87,8 @@ ones-from zero i a = tt
 ones-from (suc d) i a = go (a % 2) (ones-from d (suc i) (a / 2))
   where
     go : (b : ℕ) → From (suc i) (onesFrom d (suc i) (a / 2)) → From i (ifSet b i (onesFrom d (suc i) (a / 2)))
-    go zero f = from-down i (onesFrom d (suc i) (a / 2)) f
-    go (suc b) f = (le-refl i, from-down i (onesFrom d (suc i) (a / 2)) f)
+    go zero f = from-le (suc i) i (onesFrom d (suc i) (a / 2)) (omega arith) f
+    go (suc b) f = (le-refl i, from-le (suc i) i (onesFrom d (suc i) (a / 2)) (omega arith) f)
 
 pub in-front : (i : ℕ) (w : List ℕ) → From (suc i) w → Monotone Forbidden w → Monotone Forbidden (i ∷ w)
 in-front i [] f m = tt
@@ -148,10 +148,6 @@ at-half i (x ∷ xs) f =
     let p : x - i ≡ suc (x - suc i) = omega (arith, f .0) in
     omega (arith, at-half i xs (f .1), ap (λ (k : ℕ). 2 ^ k) p)
 
-pub from-le : (a b : ℕ) (w : List ℕ) → b ≤ a → From a w → From b w
-from-le a b [] l f = tt
-from-le a b (z ∷ zs) l f = (omega (arith, f .0), from-le a b zs l (f .1))
-
 -- what is above x is above x + 1
 pub rest : (x : ℕ) (xs : List ℕ) → Monotone Forbidden (x ∷ xs) → From (suc x) xs
 rest x [] m = tt
@@ -188,7 +184,7 @@ ones-at (suc d) i (x ∷ xs) m f h = go (eq-or-lt-of-le (f .0)) (ones-at d (suc 
         let p : bitsAt i (x ∷ xs) ≡ 2 * bitsAt (suc i) (x ∷ xs) = at-half i (x ∷ xs) f′ in
         by-digit d i (bitsAt i (x ∷ xs)) 0 (bitsAt (suc i) (x ∷ xs)) (omega arith) (omega arith) ∙ ih₂ m f′ (omega arith)
 
-from-zero : (w : List ℕ) → From 0 w
+pub from-zero : (w : List ℕ) → From 0 w
 from-zero [] = tt
 from-zero (x ∷ xs) = (zero-le, from-zero xs)
 

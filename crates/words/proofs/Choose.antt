@@ -2,7 +2,7 @@
 use mathlib.Core.Path.{_≡_, refl, sym, ap, _∙_}
 use Prim.Native.Nat.{ℕ, zero, suc, _+_, _*_, _^_, _≤_, _<_, zero-le}
 use native.Mathlib.Nat.{suc-add, add-suc, add-zero, zero-add, lt-of-not-le, not-le-of-lt, le-refl, not-suc-le-zero, le-of-suc-le-suc}
-use native.Mathlib.Decide.{le-ind, decLe}
+use native.Mathlib.Decide.{le-ind}
 use native.Mathlib.Omega.{arith}
 use lib.Pow.{pow-pos}
 use Rattle.words.specs.Choose.{choose}
@@ -23,11 +23,7 @@ choose-few zero (suc k) h = refl
 choose-few (suc n) (suc k) h = omega (arith, choose-few n k (le-of-suc-le-suc h), choose-few n (suc k) (omega arith))
 
 pub choose-enough : (n k : ℕ) → 0 < choose n k → k ≤ n
-choose-enough n k h = go (decLe k n)
-  where
-    go : Dec (k ≤ n) → k ≤ n
-    go (yes l) = l
-    go (no l) = absurd (omega (arith, choose-few n k (lt-of-not-le l)))
+choose-enough n k h = le-of-suc-le-suc (lt-of-not-le (λ l. omega (arith, choose-few n k l)))
 
 -- one more thing
 choose-one-more : (n k : ℕ) → choose n k ≤ choose (suc n) k

@@ -13,7 +13,7 @@ use Rattle.words.specs.declared.Family.the-variants.{Forbidden, Allowed}
 use Rattle.words.specs.Choose.{choose}
 use Rattle.words.specs.Word.{Step, Monotone, Below, Word, shift, shifted, shiftedFrom, shiftedAlphabet}
 use Rattle.words.specs.Rank.{rankFrom}
-use Rattle.words.proofs.Shifted.{word-shifted, shifted-long}
+use Rattle.words.proofs.Shifted.{word-shifted, shifted-long, shifted-at}
 
 pub below-at : (n : ℕ) (w : List ℕ) → Below n w ↔ ((i : ℕ) → i < length w → getD w i 0 < n)
 below-at n w = (to w, from w)
@@ -61,12 +61,7 @@ unfolding rankFrom
 rank-end F w i h = ap (rankFrom F i) (drop-of-length-le w h)
 
 -- each shifted symbol is in the shifted alphabet
-shifted-at : (F : Family) (i : ℕ) (w : List ℕ) (j : ℕ) → j < length w → getD (shiftedFrom F i w) j 0 ≡ getD w j 0 + shift F (i + j)
-shifted-at F i [] j h = absurd (not-suc-le-zero h)
-shifted-at F i (x ∷ xs) zero h = ap (λ (k : ℕ). x + shift F k) (sym (add-zero i))
-shifted-at F i (x ∷ xs) (suc j) h = shifted-at F (suc i) xs j (le-of-suc-le-suc h) ∙ ap (λ (k : ℕ). getD xs j 0 + shift F k) (suc-add i j ∙ sym (add-suc i j))
-
 pub shifted-below : (F : Family) (n k : ℕ) (w : List ℕ) → Word F n k w → (i : ℕ) → i < length w → getD w i 0 + shift F i < shiftedAlphabet F n k
 shifted-below F n k w h i l =
-    subst (λ (x : ℕ). x < shiftedAlphabet F n k) (shifted-at F 0 w i l ∙ ap (λ (j : ℕ). getD w i 0 + shift F j) (zero-add i))
+    subst (λ (x : ℕ). x < shiftedAlphabet F n k) (shifted-at F w i l)
     (below-at (shiftedAlphabet F n k) (shifted F w) .0 (word-shifted F n k w .0 h .below) i (subst (λ (j : ℕ). i < j) (sym (shifted-long F w)) l))
