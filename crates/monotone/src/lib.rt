@@ -1,5 +1,8 @@
 // Terms (document 01, "Terms and their order"): counting, packing, ranking, unranking, the next term and the walk over all of them.
-use answers::{Answer, Index, Indexed, Refusal};
+use answers::Answer;
+use answers::Index;
+use answers::Indexed;
+use answers::Refusal;
 use words::Family;
 
 // Where a walk stands: at an index, or nowhere.

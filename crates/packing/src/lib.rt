@@ -60,3 +60,17 @@ pub fn bits_of(f: Family, w: &[u64]) -> u64
     }
     bits
 }
+
+// Writes the word of an index: its set, lowest first, with the shift taken off.
+pub fn spell(f: Family, bits: u64, out: &mut [u64])
+    requires { ⌜ length (setBits bits) ≤ length (now out) ⌝ }
+    ensures { λ r. ⌜ now (out .exit) ≡ unshifted f (setBits bits) ++ drop (length (unshifted f (setBits bits))) (now (out .entry)) ⌝ }
+{
+    let mut left = bits;
+    let mut i: u64 = 0;
+    while left != 0 {
+        out[i as usize] = bits::lowest(left) - words::shift(f, i);
+        left = bits::without_lowest(left);
+        i += 1;
+    }
+}
