@@ -1,16 +1,24 @@
 -- A word without repeats and the number of its set digits: one gives the other, and the order of words of one length is the order of the numbers.
 -- Assumes nothing.
+--   colex-is-order-of-numbers    of two words of one length, the earlier is the one with the smaller number
+--   bits-fit, below-of-bits    symbols below n are digits of a number below 2 ^ n
+--   reset-bits    the k lowest digits below those of w
+--   From i w    every symbol of w is i or above
+--   from-zero, from-le    which holds of 0, and of every smaller i
+--   in-front, rest, tail    i can stand in front of a word from i + 1 up, what follows x is from x + 1 up, and is a word
+--   set-bits-monotone    the ones of a number, lowest first, are a word
+--   bits-of-set, set-of-bits    the number of the ones of a is a, and the ones of the number of a word are the word
+--   set-bits-long    there are as many as the number has ones
 use mathlib.Core.Path.{_≡_, refl, sym, ap, ap₂, subst, _∙_}
 use mathlib.Core.Logic.{_↔_, _⊎_, inl, inr}
 use mathlib.Core.List.{List, [], _∷_}
-use Prim.Native.Nat.{ℕ, zero, suc, _+_, _-_, _*_, _/_, _%_, _^_, _≤_, _<_, zero-le, suc-le-suc}
-use native.Mathlib.Nat.{le-refl, le-trans, not-suc-le-zero, lt-of-not-le, not-le-of-lt, lt-irrefl, suc-sub-suc, sub-self, sub-zero, pow-succ', pow-zero, mod-lt, mul-zero, add-zero, zero-add, eq-or-lt-of-le, div-add-mod'}
+use Prim.Native.Nat.{ℕ, zero, suc, _+_, _-_, _*_, _/_, _%_, _^_, _≤_, _<_, zero-le}
+use native.Mathlib.Nat.{le-refl, le-trans, lt-of-not-le, not-le-of-lt, sub-zero, pow-succ', mul-zero, eq-or-lt-of-le}
 use native.Mathlib.Omega.{arith}
 use lib.ListN.{length}
 use lib.Pow.{pow-pos, pow-mono}
 use lib.Count.{ones, onesIn}
-use Rattle.words.specs.declared.Family.{Family}
-use Rattle.words.specs.declared.Family.the-variants.{Forbidden, Allowed}
+use Rattle.words.specs.declared.Family.the-variants.{Forbidden}
 use Rattle.words.specs.Word.{Monotone, Below}
 use Rattle.words.specs.Colex.{ColexLt}
 use Rattle.words.specs.Next.{reset}
@@ -178,7 +186,7 @@ ones-at (suc d) i (x ∷ xs) m f h = go (eq-or-lt-of-le (f .0)) (ones-at d (suc 
         let z : x - i ≡ 0 = omega arith in
         omega (arith, ap (λ (k : ℕ). 2 ^ k) z, at-half i xs f′) in
         by-digit d i (bitsAt i (x ∷ xs)) 1 (bitsAt (suc i) xs) (omega arith) (omega arith)
-        ∙ ap₂ (λ (a : ℕ) (l : List ℕ). a ∷ l) e (ih₁ (tail x xs m) f′ (omega arith))
+        ∙ ap₂ _∷_ e (ih₁ (tail x xs m) f′ (omega arith))
     go (inr l) ih₁ ih₂ =
         let f′ : From (suc i) (x ∷ xs) = (l, from-le (suc x) (suc i) xs (omega arith) (rest x xs m)) in
         let p : bitsAt i (x ∷ xs) ≡ 2 * bitsAt (suc i) (x ∷ xs) = at-half i (x ∷ xs) f′ in

@@ -1,4 +1,12 @@
 -- The laws of the binomial coefficient that the words ask for. Assumes nothing.
+--   choose-none, pascal    the rules of the definition: no things, and Pascal's recurrence
+--   choose-few, choose-enough    there is no set of more things than there are, and where there is one, there are as many things
+--   choose-some, choose-all    there is a set of k among k or more, and one of all
+--   choose-grows, choose-fewer    more things have no fewer sets, and fewer sets are of fewer things
+--   choose-reaches    m + k things have at least m sets of k + 1: every rank is reached
+--   choose-below-power    a coefficient of row n is at most 2 ^ n
+--   choose-absorbs, choose-next-column    the steps to the next row and column, as products
+--   choose-symmetric    choosing k things is leaving the n others
 use mathlib.Core.Path.{_≡_, refl, sym, ap, _∙_}
 use Prim.Native.Nat.{ℕ, zero, suc, _+_, _*_, _^_, _≤_, _<_, zero-le}
 use native.Mathlib.Nat.{suc-add, add-suc, add-zero, zero-add, lt-of-not-le, not-le-of-lt, le-refl, not-suc-le-zero, le-of-suc-le-suc}

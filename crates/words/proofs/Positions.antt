@@ -1,17 +1,20 @@
 -- The same notions by index, as a program with an array has them, and the rank of a word in two parts. Assumes nothing.
-use mathlib.Core.Path.{_≡_, refl, sym, ap, subst, _∙_}
+--   below-at, monotone-at    `Below` and `Monotone` by the symbols at the positions
+--   rank-append    the lower and the upper part of a word weigh by themselves
+--   rank-drop, rank-end    a loop over the positions: one turn, and how it ends
+--   shifted-below    each shifted symbol of a word is in the shifted alphabet
+use mathlib.Core.Path.{_≡_, sym, ap, subst, _∙_}
 use mathlib.Core.Logic.{_↔_}
 use mathlib.Core.List.{List, [], _∷_, _++_}
 use Prim.Native.Nat.{ℕ, zero, suc, _+_, _≤_, _<_, suc-le-suc}
-use native.Mathlib.Nat.{not-suc-le-zero, le-of-suc-le-suc, zero-lt-suc, add-zero, add-suc, suc-add, add-assoc, zero-add}
+use native.Mathlib.Nat.{not-suc-le-zero, le-of-suc-le-suc, zero-lt-suc, add-zero, add-suc, suc-add, zero-add}
 use native.Mathlib.Omega.{arith}
 use native.Mathlib.Numerals.{add-one}
 use lib.ListN.{length, getD, drop, drop-of-length-le}
 use lib.Seq.{drop-cons}
 use Rattle.words.specs.declared.Family.{Family}
-use Rattle.words.specs.declared.Family.the-variants.{Forbidden, Allowed}
 use Rattle.words.specs.Choose.{choose}
-use Rattle.words.specs.Word.{Step, Monotone, Below, Word, shift, shifted, shiftedFrom, shiftedAlphabet}
+use Rattle.words.specs.Word.{Step, Monotone, Below, Word, shift, shifted, shiftedAlphabet}
 use Rattle.words.specs.Rank.{rankFrom}
 use Rattle.words.proofs.Shifted.{word-shifted, shifted-long, shifted-at}
 

@@ -1,4 +1,14 @@
--- The shift carries the words with repeats to those without, one to one and in order. Assumes nothing.
+-- The shift carries the words with repeats to those without, one to one and in order, and is taken off again. Assumes nothing.
+--   rank-shifted    the rank is that of the shifted word
+--   shifted-long, unshifted-long    the length stays
+--   shifted-at, unshifted-at    the symbol at a position has the shift of that position added, or taken off
+--   shifted-monotone, unshifted-monotone    the shifted word increases exactly if the word is one of the family, and unshifting an increasing word gives one
+--   unshifted-shifted, shifted-unshifted    the two undo each other, the second way on increasing words
+--   shifted-inj    two words with one shifted word are the same
+--   colex-shifted    the order is that of the shifted words
+--   word-shifted    the words over n are the shifted ones over the shifted alphabet
+--   shifted-by-rank    the increasing word of the same length and rank is the shifted word
+--   shifted-first, shifted-next, shifted-unrank    so the first word, the next one and that of a rank are shifted to those without repeats
 use mathlib.Core.Path.{_≡_, refl, sym, ap, ap₂, subst, _∙_}
 use mathlib.Core.Logic.{_↔_, inl, inr}
 use mathlib.Core.List.{List, [], _∷_}
