@@ -4,7 +4,7 @@
 --   bits-fit, below-of-bits    symbols below n are digits of a number below 2 ^ n
 --   reset-bits    the k lowest digits below those of w
 --   From i w    every symbol of w is i or above
---   from-zero, from-le    which holds of 0, and of every smaller i
+--   from-zero, from-le    every list is from 0 up, and from a up is from each smaller b up
 --   in-front, rest, tail    i can stand in front of a word from i + 1 up, what follows x is from x + 1 up, and is a word
 --   set-bits-monotone    the ones of a number, lowest first, are a word
 --   bits-of-set, set-of-bits    the number of the ones of a is a, and the ones of the number of a word are the word

@@ -2,6 +2,7 @@
 --   entry-is-choose    what stands at place k of row n is choose n k
 --   entry-none, entry-empty, entry-sum    column 0, row 0, and the recurrence, with a program's n - 1 and k - 1
 --   entry-few, entry-mirror    right of the diagonal, and the mirror image in a row
+--   triangle, rows, along, both    the test f at every place of the rows 0 to n
 --   triangle-at    a test that passes on the rows 0 to n, computed once, holds of each of their coefficients
 --   choose-fits    every coefficient of the rows 0 to n is below 2 ^ w, if the computed test says so
 --   choose-fits-64, choose-fits-128    so it is of 64 digits up to row 67, and of 128 up to row 131

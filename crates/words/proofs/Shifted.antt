@@ -32,7 +32,8 @@ use Rattle.words.proofs.Next.{next-long, next-monotone, next-rank}
 use Rattle.words.proofs.Bits.{From, from-le, from-zero, rest, tail}
 use Rattle.words.proofs.Ends.{first-long, first-monotone, first-has-rank-zero}
 
--- the rank is that of the shifted word
+-- ---- the rank
+
 rank-from-shifted : (F : Family) (i : ℕ) (w : List ℕ) → rankFrom F i w ≡ rankFrom Forbidden i (shiftedFrom F i w)
 unfolding rankFrom
 rank-from-shifted F i [] = refl
@@ -48,10 +49,10 @@ each-long f i [] = refl
 each-long f i (x ∷ xs) = ap suc (each-long f (suc i) xs)
 
 pub shifted-long : (F : Family) (w : List ℕ) → length (shifted F w) ≡ length w
-shifted-long F w = each-long (λ x j. x + shift F j) 0 w
+shifted-long F w = each-long _ 0 w
 
 pub unshifted-long : (F : Family) (s : List ℕ) → length (unshifted F s) ≡ length s
-unshifted-long F s = each-long (λ x j. x - shift F j) 0 s
+unshifted-long F s = each-long _ 0 s
 
 each-at : (f : ℕ → ℕ → ℕ) (i : ℕ) (w : List ℕ) (j : ℕ) → j < length w → getD (eachFrom f i w) j 0 ≡ f (getD w j 0) (i + j)
 each-at f i [] j h = absurd (not-suc-le-zero h)
@@ -59,10 +60,10 @@ each-at f i (x ∷ xs) zero h = ap (f x) (sym (add-zero i))
 each-at f i (x ∷ xs) (suc j) h = each-at f (suc i) xs j (le-of-suc-le-suc h) ∙ ap (f (getD xs j 0)) (suc-add i j ∙ sym (add-suc i j))
 
 pub shifted-at : (F : Family) (w : List ℕ) (i : ℕ) → i < length w → getD (shifted F w) i 0 ≡ getD w i 0 + shift F i
-shifted-at F w i h = each-at (λ x j. x + shift F j) 0 w i h ∙ ap (λ (j : ℕ). getD w i 0 + shift F j) (zero-add i)
+shifted-at F w i h = each-at _ 0 w i h ∙ ap (λ (j : ℕ). getD w i 0 + shift F j) (zero-add i)
 
 pub unshifted-at : (F : Family) (s : List ℕ) (i : ℕ) → i < length s → getD (unshifted F s) i 0 ≡ getD s i 0 - shift F i
-unshifted-at F s i h = each-at (λ x j. x - shift F j) 0 s i h ∙ ap (λ (j : ℕ). getD s i 0 - shift F j) (zero-add i)
+unshifted-at F s i h = each-at _ 0 s i h ∙ ap (λ (j : ℕ). getD s i 0 - shift F j) (zero-add i)
 
 -- ---- the words
 
@@ -136,7 +137,7 @@ word-shifted F n k w = (
       (subst (λ (r : ℕ). r < count F n k) (sym (rank-shifted F w)) (rank-below-count Forbidden (shiftedAlphabet F n k) k (shifted F w) h)),
 )
 
--- ---- a word and its shifted word are told by one rank: so the first, the next and that of a rank are shifted to those without repeats
+-- ---- the shifted word is told by the rank
 
 pub shifted-by-rank : (F : Family) (w s : List ℕ) → Monotone F w → Monotone Forbidden s → length w ≡ length s → rankOf F w ≡ rankOf Forbidden s → shifted F w ≡ s
 shifted-by-rank F w s m l e r =
