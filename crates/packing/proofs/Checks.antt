@@ -3,7 +3,8 @@
 --   rises-turn, rises-end    one pair of neighbours, and the end of the word
 --   last-shifted-at    the last shifted symbol by its position
 --   last-shifted-none    the empty word's
---   shift-most, room-test    a position leaves room, and the symbol is held against it in place of the sum
+--   room-test    the symbol is held against what its position leaves, in place of the sum
+--   shifted-fit    a word whose last shifted symbol is below n has every shifted symbol below n
 --   bits-turn, bits-end    one symbol of the bits, and the end of the word
 --   symbol-fits    each shifted symbol of a set of n digits is below n
 --   one-shl    a single digit, as a program shifts it
@@ -11,8 +12,8 @@ use mathlib.Core.Path.{_≡_, refl, sym, ap, ap₂, subst, _∙_}
 use mathlib.Core.Bool.{Bool, true, false}
 use mathlib.Core.Logic.{_↔_}
 use mathlib.Core.List.{List, [], _∷_}
-use Prim.Native.Nat.{ℕ, zero, suc, _+_, _-_, _*_, _%_, _^_, _≤_, _<_, zero-le}
-use native.Mathlib.Nat.{le-refl, not-suc-le-zero, le-of-suc-le-suc, add-zero, add-suc, suc-add, zero-add, lt-of-not-le, one-mul}
+use Prim.Native.Nat.{ℕ, zero, suc, _+_, _-_, _*_, _%_, _^_, _≤_, _<_}
+use native.Mathlib.Nat.{lt-trans, not-suc-le-zero, le-of-suc-le-suc, add-zero, add-suc, suc-add, zero-add, lt-of-not-le, one-mul}
 use native.Mathlib.Numerals.{add-one}
 use native.Mathlib.Omega.{arith}
 use borrow.Author.Tests.{ltb-true, ltb-false, leb-true, lt-ltb, le-ltb, le-leb}
@@ -23,8 +24,9 @@ use lib.Seq.{drop-cons}
 use Rattle.words.specs.declared.Family.{Family}
 use Rattle.words.specs.declared.Family.the-variants.{Forbidden, Allowed}
 use Rattle.words.specs.Pick.{pick}
-use Rattle.words.specs.Word.{Step, Monotone, shift, shiftedFrom}
+use Rattle.words.specs.Word.{Step, Monotone, Below, shift, shiftedFrom}
 use Rattle.words.specs.Bits.{bitsOf}
+use Rattle.words.proofs.Word.{step-up}
 use Rattle.packing.specs.Checks.{steps, rises, lastShiftedFrom, lastShifted}
 
 -- ---- the rule of a word
@@ -85,11 +87,6 @@ pub last-shifted-none : (F : Family) (w : List ℕ) → length w ≡ 0 → lastS
 last-shifted-none F [] h = refl
 last-shifted-none F (x ∷ xs) h = absurd (omega arith)
 
--- a position leaves room for its symbol: no shift is above its position
-pub shift-most : (F : Family) (i : ℕ) → shift F i ≤ i
-shift-most Forbidden i = zero-le
-shift-most Allowed i = le-refl i
-
 -- the symbol against what its position leaves, in place of the sum
 pub room-test : (m s x : ℕ) → s ≤ m → ltb (m - s) x ≡ ltb m (x + s)
 room-test m s x h = go (ltb (m - s) x) refl
@@ -97,6 +94,14 @@ room-test m s x h = go (ltb (m - s) x) refl
     go : (t : Bool) → ltb (m - s) x ≡ t → t ≡ ltb m (x + s)
     go true e = sym (lt-ltb m (x + s) (omega (arith, ltb-true (m - s) x e)))
     go false e = sym (le-ltb m (x + s) (omega (arith, ltb-false (m - s) x e)))
+
+pub shifted-fit : (F : Family) (i n : ℕ) (w : List ℕ) → Monotone F w → lastShiftedFrom F i w < n → Below n (shiftedFrom F i w)
+shifted-fit F i n [] m h = tt
+shifted-fit F i n (x ∷ []) m h = (h, tt)
+shifted-fit F i n (x ∷ y ∷ ys) m h = go (shifted-fit F (suc i) n (y ∷ ys) (m .1) h)
+  where
+    go : Below n (shiftedFrom F (suc i) (y ∷ ys)) → Below n (shiftedFrom F i (x ∷ y ∷ ys))
+    go b = (lt-trans (step-up F i x y (m .0)) (b .0), b)
 
 -- ---- the bits
 
