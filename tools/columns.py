@@ -27,7 +27,7 @@ def crate(name, first, last):
 // Each `match` compiles to one table. A row above {ROWS} has no entry here, and the caller keeps it out, since a test would cost as much as the table.
 ghost use mathlib.Core.Path.{{_≡_}};
 ghost use Prim.Native.Nat.{{_≤_}};
-ghost use Rattle.words.specs.Row.{{entry}};
+ghost use Rattle.pascal.specs.Row.{{entry}};
 """
     with open(f"crates/{name}/src/lib.rt", "w", encoding="utf-8") as f:
         f.write(text + "".join(column(k) for k in range(first, last + 1)))

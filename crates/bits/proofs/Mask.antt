@@ -20,7 +20,7 @@ pub capped-from : (n : ℕ) → 64 ≤ n → capped n ≡ 64
 capped-from n h = ap (λ (t : Bool). pick t n 64) (le-ltb n 64 h)
 
 pub low-mask : (n r : ℕ) → suc r ≡ 2 ^ capped n → LowMask n r
-low-mask n r e = record { number = e; set = set-bits-ones (capped n) r e }
+low-mask n r e = record { number = e; symbols = set-bits-ones (capped n) r e }
 
 pub capped-mod : (n a : ℕ) → a < 2 ^ 64 → a % 2 ^ capped n ≡ a % 2 ^ n
 capped-mod n a h = go (ltb n 64) refl

@@ -12,7 +12,7 @@ use lib.Dec.{eqb}
 use Rattle.words.specs.HowMany.{In}
 use Rattle.words.specs.Pick.{pick}
 use Rattle.words.specs.Bits.{setBits}
-use Rattle.words.proofs.SetLaws.{in-set-is-digit}
+use Rattle.words.proofs.Members.{in-set-is-digit}
 use Rattle.bits.specs.Member.{holds}
 
 pub holds-is-in : (s : ℕ) (w : List ℕ) → (holds s w ≡ true) ↔ In s w

@@ -13,7 +13,7 @@ use native.Mathlib.Numerals.{add-one}
 use lib.ListN.{length, getD, drop, drop-of-length-le}
 use lib.Seq.{drop-cons}
 use Rattle.words.specs.declared.Family.{Family}
-use Rattle.words.specs.Choose.{choose}
+use Rattle.pascal.specs.Choose.{choose}
 use Rattle.words.specs.Word.{Step, Monotone, Below, Word, shift, shifted, shiftedAlphabet}
 use Rattle.words.specs.Rank.{rankFrom}
 use Rattle.words.proofs.Shifted.{word-shifted, shifted-long, shifted-at}

@@ -18,7 +18,7 @@ use native.Mathlib.Omega.{arith}
 use lib.ListN.{length, getD}
 use Rattle.words.specs.declared.Family.{Family}
 use Rattle.words.specs.declared.Family.the-variants.{Forbidden}
-use Rattle.words.specs.Choose.{choose}
+use Rattle.pascal.specs.Choose.{choose}
 use Rattle.words.specs.Word.{Monotone, Word, shift, eachFrom, shiftedFrom, shifted, unshiftedFrom, unshifted, shiftedAlphabet, count}
 use Rattle.words.specs.Colex.{ColexLt}
 use Rattle.words.specs.Rank.{rankFrom, rankOf}

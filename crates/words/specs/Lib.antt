@@ -1,5 +1,4 @@
 pub mod Pick
-pub mod Choose
 pub mod Factorial
 pub mod Word
 pub mod Colex
@@ -9,4 +8,3 @@ pub mod Unrank
 pub mod Next
 pub mod Bits
 pub mod Inversions
-pub mod Row
