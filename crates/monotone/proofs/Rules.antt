@@ -6,22 +6,31 @@
 --   unrank-none    a rank at or above the count is refused with 3
 --   Ranked F w    the word keeps its rule and the width limits
 --   checked-given, checked-gives    what the checks of a word tell
+--   ranked-fits    the bits of a word that passes them fit 64 digits
+--   symbol-at, symbol-shift    the symbol at a position of an index
 use mathlib.Core.Path.{_≡_, refl, sym, ap, ap₂, _∙_}
 use mathlib.Core.Bool.{Bool, true, false, not}
 use mathlib.Core.Logic.{_⊎_, inl, inr}
-use mathlib.Core.List.{List}
-use Prim.Native.Nat.{ℕ, _≤_, _<_}
+use mathlib.Core.List.{List, [], _∷_}
+use Prim.Native.Nat.{ℕ, zero, suc, _-_, _^_, _≤_, _<_}
+use native.Mathlib.Nat.{le-of-suc-le-suc}
 use native.Mathlib.Omega.{arith}
 use borrow.Author.Tests.{ltb-true, ltb-false, leb-false, le-ltb, lt-ltb, lt-leb, le-leb, not-false}
 use lib.Dec.{leb, ltb}
-use lib.ListN.{length}
+use lib.ListN.{length, getD}
 use Rattle.words.specs.declared.Family.{Family}
-use Rattle.words.specs.Word.{Monotone, shiftedAlphabet, count}
+use Rattle.words.specs.Word.{Monotone, shift, shifted, shiftedAlphabet, count}
 use Rattle.words.specs.Unrank.{unrankOf}
+use Rattle.words.specs.Bits.{bitsOf, setBits}
+use Rattle.words.proofs.Bits.{bits-fit}
+use Rattle.words.proofs.Shifted.{shifted-monotone, unshifted-at}
+use Rattle.answers.specs.declared.Index.{Index}
+use Rattle.answers.specs.Terms.{wordOf}
 use Rattle.answers.specs.Says.{Says, refuses, gives, refusedIf, andThen}
 use Rattle.answers.proofs.Says.{gives-same, gives-no-refusal, passed, stopped, then-gave}
 use Rattle.packing.specs.Checks.{rises, lastShifted}
-use Rattle.packing.proofs.Checks.{rises-is-monotone}
+use Rattle.packing.proofs.Checks.{rises-is-monotone, shifted-fit}
+use Rattle.packing.proofs.Spelling.{shift-within}
 use Rattle.monotone.specs.Rules.{countSays, checked, unrankSays}
 
 -- ---- the count
@@ -118,3 +127,25 @@ checked-given F w a b e = go (passed (ltb 64 (length w)) 1 (refusedIf (not (rise
 
 pub checked-gives : {A : Type 0} (F : Family) (w : List ℕ) (a : A) → Ranked F w → checked F w a ≡ gives a
 checked-gives F w a h = simp (le-ltb 64 (length w) (h .short), rises-is-monotone F w .1 (h .monotone), le-ltb 63 (lastShifted F w) (h .low))
+
+pub ranked-fits : (F : Family) (w : List ℕ) → rises F w ≡ true → lastShifted F w ≤ 63 → bitsOf (shifted F w) < 2 ^ 64
+ranked-fits F w e h =
+    let m : Monotone F w = rises-is-monotone F w .0 e in
+    bits-fit 64 (shifted F w) (shifted-monotone F w .0 m) (shifted-fit F 0 64 w m (omega arith))
+
+-- within a list the default does not matter
+getD-any : (w : List ℕ) (i d e : ℕ) → i < length w → getD w i d ≡ getD w i e
+getD-any [] i d e h = absurd (omega arith)
+getD-any (x ∷ xs) zero d e h = refl
+getD-any (x ∷ xs) (suc i) d e h = getD-any xs i d e (le-of-suc-le-suc h)
+
+-- ---- a symbol of an index: s is the shifted symbol at position p, and t the shift there
+
+pub symbol-at : (x : Index) (p s t : ℕ) → p < length (setBits (x .bits)) → s ≡ getD (setBits (x .bits)) p 64 → t ≡ shift (x .family) p
+    → s - t ≡ getD (wordOf x) p 0
+symbol-at x p s t h e f =
+    ap₂ (λ (a b : ℕ). a - b) (e ∙ getD-any (setBits (x .bits)) p 64 0 h) f ∙ sym (unshifted-at (x .family) (setBits (x .bits)) p h)
+
+pub symbol-shift : (x : Index) (p s t : ℕ) → p < length (setBits (x .bits)) → s ≡ getD (setBits (x .bits)) p 64 → t ≡ shift (x .family) p → t ≤ s
+symbol-shift x p s t h e f =
+    omega (arith, e ∙ getD-any (setBits (x .bits)) p 64 0 h, f, shift-within (x .family) (x .bits) p h)

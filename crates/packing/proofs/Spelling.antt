@@ -1,5 +1,6 @@
 -- The loop that writes the word of an index into a lent output, lowest symbol first. Assumes nothing.
 --   Spelling F a base out left i    i symbols of the word of the set a are written, and left has the others
+--   shift-within    a shifted symbol is not below the shift of its position
 --   spelling-starts, spelling-ends    before the first symbol, and after the last
 --   spelling-place, spelling-turn    the symbol that is written next, and the loop after it
 use mathlib.Core.Path.{_≡_, refl, sym, ap, ap₂, subst, _∙_}
@@ -36,7 +37,7 @@ some-bit a h = go (setBits a) refl
     go (x ∷ xs) e = zero-lt-suc (length xs)
 
 -- what the shift adds to a symbol, the shifted symbol has
-shift-within : (F : Family) (a i : ℕ) → i < length (setBits a) → shift F i ≤ getD (setBits a) i 0
+pub shift-within : (F : Family) (a i : ℕ) → i < length (setBits a) → shift F i ≤ getD (setBits a) i 0
 shift-within F a i h =
     let l : i < length (unshifted F (setBits a)) = omega (arith, unshifted-long F (setBits a)) in
     omega (
