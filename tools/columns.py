@@ -1,5 +1,5 @@
 #!/usr/bin/env python3
-"""Writes crates/columns_low and crates/columns_high: the columns 1 to 32 of Pascal's triangle, rows 0 to 64 of each.
+"""Writes crates/columns_low and crates/columns_high: the columns 1 to 16 and 17 to 32 of Pascal's triangle, rows 0 to 64 of each.
 
 Run it at the repository's root: python3 tools/columns.py. Run again, it changes nothing; nor does `rt fmt` after it.
 """
@@ -24,7 +24,7 @@ pub fn column_{k}(n: u64) -> u64
 
 def crate(name, first, last):
     text = f"""// Columns {first} to {last} of Pascal's triangle (DLMF 26.3), row n of column k holding binomial(n, k). Made by tools/columns.py.
-// Each `match` compiles to one table. A row above {ROWS} has no entry here, and the caller keeps it out, since a test would cost as much as the table.
+// Each `match` compiles to one table. A row above {ROWS} has no entry here, and the caller keeps it out, since a test would cost as much as the look-up.
 ghost use mathlib.Core.Path.{{_≡_}};
 ghost use Prim.Native.Nat.{{_≤_}};
 ghost use Rattle.pascal.specs.Row.{{entry}};
@@ -33,5 +33,5 @@ ghost use Rattle.pascal.specs.Row.{{entry}};
         f.write(text + "".join(column(k) for k in range(first, last + 1)))
 
 
-crate("columns_low", 1, 12)
-crate("columns_high", 13, 32)
+crate("columns_low", 1, 16)
+crate("columns_high", 17, 32)

@@ -1,0 +1,53 @@
+-- `text::find` meets its contract. The invariant: no place that was passed has the byte. The measure is what is left of the text. Assumes nothing.
+use mathlib.Core.Path.{_≡_}
+use Prim.Native.Nat.{ℕ, _-_, _≤_, _<_}
+use native.Mathlib.Omega.{arith}
+use lib.ListN.{length, getD}
+use borrow.Author.Count.{below-more}
+use Rattle.text.proofs.find.Statement.{statement}
+use Rattle.text.proofs.find.Tie as tie
+
+abbrev Inv-loop : tie.InvT-loop
+Inv-loop s from b i₀ i = (from ≤ i) × (i ≤ length s) × ((k : ℕ) → k < i → from ≤ k → getD s k 0 ≡ b → ⊥)
+
+abbrev μ-loop : tie.MeasureT-loop
+μ-loop s from b i₀ i = length s - i
+
+returns : tie.Need-returns Inv-loop μ-loop
+returns c = record { within = omega arith; after = λ h. omega arith; none = λ k l h e. omega arith; there = λ h. omega arith }
+
+loop-holds : tie.Need-loop-holds Inv-loop μ-loop
+loop-holds c = (omega arith, omega arith, λ k l h e. omega arith)
+
+shared-slice-read-if2 : tie.Need-shared-slice-read-if2 Inv-loop μ-loop
+shared-slice-read-if2 c = omega arith
+
+returns-2 : tie.Need-returns-2 Inv-loop μ-loop
+returns-2 c = record { within = omega arith; after = λ h. omega arith; none = c .before .before .before .loop .inv .2; there = λ h. c .if2 .taken }
+
+add-i : tie.Need-add-i Inv-loop μ-loop
+add-i c = omega arith
+
+loop-less : tie.Need-loop-less Inv-loop μ-loop
+loop-less c = omega arith
+
+loop-again : tie.Need-loop-again Inv-loop μ-loop
+loop-again c = (omega arith, omega arith, below-more _ _ (c .before .before .before .loop .inv .2) (λ h. c .if2 .left))
+
+returns-3 : tie.Need-returns-3 Inv-loop μ-loop
+returns-3 c = record { within = omega arith; after = λ h. omega arith; none = c .before .loop .inv .2; there = λ h. omega arith }
+
+pub find-spec : {M : Type 1} → statement M
+find-spec =
+    tie.close
+    (tie.spec
+    Inv-loop
+    μ-loop
+    returns
+    loop-holds
+    shared-slice-read-if2
+    returns-2
+    add-i
+    loop-less
+    loop-again
+    returns-3)
