@@ -2,6 +2,7 @@
 --   word-of-index    the word of a word's index is the word
 --   index-of-word    the index of an index's word is the index
 --   word-monotone, word-long    the word of an index keeps its family's rule, and has as many symbols as the index has ones
+--   shifted-word    the shifted word of an index is its set
 --   rank-of-word    its rank is that of its set
 use mathlib.Core.Path.{_≡_, ap, _∙_}
 use mathlib.Core.List.{List}
@@ -21,7 +22,7 @@ pub word-of-index : (F : Family) (w : List ℕ) → Monotone F w → wordOf (ind
 word-of-index F w m = ap (unshifted F) (set-of-bits (shifted F w) (shifted-monotone F w .0 m)) ∙ unshifted-shifted F w
 
 -- the shifted word of an index is its set
-shifted-word : (x : Index) → shifted (x .family) (wordOf x) ≡ setBits (x .bits)
+pub shifted-word : (x : Index) → shifted (x .family) (wordOf x) ≡ setBits (x .bits)
 shifted-word x = shifted-unshifted (x .family) (setBits (x .bits)) (set-bits-monotone (x .bits))
 
 pub index-of-word : (x : Index) → indexOf (x .family) (wordOf x) ≡ x
