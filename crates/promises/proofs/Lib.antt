@@ -1,0 +1,4 @@
+pub mod From
+pub mod Walks
+pub mod Terms
+pub mod Alphabets
