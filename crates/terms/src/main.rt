@@ -2,21 +2,13 @@
 ghost use Prim.Native.Nat.{_≤_};
 ghost use lib.ListN.{length};
 
-// One read: how many bytes came.
-fn read_some(part: &mut [u8]) -> usize
-    ensures { λ r. ⌜ r ≤ length (now (part .entry)) ⌝ }
-{
-    let got = libc::read(0, part);
-    io::count(got, part)
-}
-
 // Reads until a newline has come, the input ends or the buffer is full, and answers how many bytes came.
 fn read_line(buffer: &mut [u8]) -> usize
     ensures { λ r. ⌜ r ≤ length (now (buffer .exit)) ⌝ }
 {
     let mut n = 0;
     while n < buffer.len() {
-        let k = read_some(&mut buffer[n..]);
+        let k = streams::read_some(&mut buffer[n..]);
         if k == 0 {
             return n;
         }

@@ -53,25 +53,6 @@ fn parse(line: &[u8]) -> Line {
     Line::Words(f, n, k)
 }
 
-// Writes out what the buffer holds.
-fn flush(out: &[u8], at: usize) {
-    if at <= out.len() {
-        io::write_all(1, &out[0..at]);
-    }
-}
-
-// A place of the buffer with room for one more line: a line of 64 symbols takes fewer than 512 bytes.
-fn with_room(out: &[u8], at: usize) -> usize {
-    if out.len() < 512 {
-        return at;
-    }
-    if at < out.len() - 512 {
-        return at;
-    }
-    flush(out, at);
-    0
-}
-
 fn put_refusal(out: &mut [u8], at: usize, e: Refusal) -> usize {
     let at = text::put(out, at, b"refused ");
     let at = text::put_number(out, at, answers::number(e));
@@ -112,13 +93,13 @@ fn put_symbols(out: &mut [u8], at: usize, word: &[u64], k: u64) -> usize {
     to
 }
 
-// The line of one word: its rank, a colon, and its symbols.
+// The line of one word: its rank, a colon, and its symbols. One of 64 symbols takes fewer than 512 bytes.
 fn put_word(out: &mut [u8], at: usize, r: u64, x: Index) -> usize {
     let mut word = [0u64; 64];
     let Answer::Is(k) = monotone::unpack(x, &mut word) else {
         return at;
     };
-    let at = with_room(out, at);
+    let at = streams::with_room(out, at, 512);
     let at = text::put_number(out, at, r);
     let at = text::put_byte(out, at, b':');
     let at = put_symbols(out, at, &word, k);
@@ -169,5 +150,5 @@ fn put_answer(out: &mut [u8], line: &[u8]) -> usize {
 pub fn answer(line: &[u8]) {
     let mut out = io::buffer();
     let at = put_answer(&mut out, line);
-    flush(&out, at);
+    streams::flush(&out, at);
 }
