@@ -7,22 +7,33 @@ mod reply;
 mod request;
 mod terms;
 
-use reply::Said;
+use reply::Reply;
 use request::Begun;
 use request::Rest;
 
-// The answer to a request: each group of requests is asked for it in turn.
-fn answer_verb(verb: &[u8], kinds: &[u8], values: &[u64], lent: &mut [u64], out: &mut [u8], at: usize) -> usize {
-    if let Said::To(next) = terms::over(verb, kinds, values, lent, out, at) {
-        return next;
-    }
-    if let Said::To(next) = terms::of_word(verb, kinds, values, out, at) {
-        return next;
-    }
-    if let Said::To(next) = terms::of_index(verb, kinds, values, lent, out, at) {
-        return next;
-    }
-    reply::bad(out, at)
+// The answer to a request, by the group that knows its verb.
+fn reply_to(verb: &[u8], kinds: &[u8], values: &[u64], lent: &mut [u64]) -> Reply {
+    let r = terms::over(verb, kinds, values, lent);
+    let Reply::Bad = r else {
+        return r;
+    };
+    let r = terms::of_word(verb, kinds, values);
+    let Reply::Bad = r else {
+        return r;
+    };
+    terms::of_index(verb, kinds, values, lent)
+}
+
+fn answer_verb(
+    verb: &[u8],
+    kinds: &[u8],
+    values: &[u64],
+    lent: &mut [u64],
+    out: &mut [u8],
+    at: usize,
+) -> usize {
+    let r = reply_to(verb, kinds, values, lent);
+    reply::put(out, at, r, lent)
 }
 
 // How many places of the output are lent: as many as are asked for, of the 80 that there are.
@@ -36,12 +47,27 @@ fn lent_of(room: u64) -> usize
 }
 
 // The answer to a request whose n words after the verb are taken in.
-fn answer_words(verb: &[u8], n: usize, kinds: &[u8], values: &[u64], room: u64, out: &mut [u8], at: usize) -> usize
+fn answer_words(
+    verb: &[u8],
+    n: usize,
+    kinds: &[u8],
+    values: &[u64],
+    room: u64,
+    out: &mut [u8],
+    at: usize,
+) -> usize
     requires { ⌜ (n ≤ length (now kinds)) × (n ≤ length (now values)) ⌝ }
 {
     let mut places = [0u64; 80];
     let lent = lent_of(room);
-    answer_verb(verb, &kinds[0..n], &values[0..n], &mut places[0..lent], out, at)
+    answer_verb(
+        verb,
+        &kinds[0..n],
+        &values[0..n],
+        &mut places[0..lent],
+        out,
+        at,
+    )
 }
 
 // The answer to a line whose verb stands from place `from` up to `end`. No request has more words after its verb than two lists of 80

@@ -3,28 +3,32 @@ use answers::Answer;
 use answers::Indexed;
 use answers::Refusal;
 
-// Whether a group of requests has answered, and the place after the answer.
-pub enum Said {
-    To(usize),
-    Nothing,
+// What a request is answered with.
+pub(crate) enum Reply {
+    // it is no request
+    Bad,
+    Number(Answer),
+    Index(Indexed),
+    // how many of the lent places a call has written
+    Places(Answer),
 }
 
-pub fn bad(out: &mut [u8], at: usize) -> usize {
+pub(crate) fn bad(out: &mut [u8], at: usize) -> usize {
     text::put(out, at, b"bad line\n")
 }
 
-pub fn refusal(out: &mut [u8], at: usize, e: Refusal) -> usize {
+pub(crate) fn refusal(out: &mut [u8], at: usize, e: Refusal) -> usize {
     let at = text::put(out, at, b"refused ");
     number(out, at, answers::number(e))
 }
 
-pub fn number(out: &mut [u8], at: usize, n: u64) -> usize {
+pub(crate) fn number(out: &mut [u8], at: usize, n: u64) -> usize {
     let at = text::put_number(out, at, n);
     text::put_byte(out, at, b'\n')
 }
 
 // A number, or a refusal.
-pub fn answer(out: &mut [u8], at: usize, a: Answer) -> usize {
+pub(crate) fn answer(out: &mut [u8], at: usize, a: Answer) -> usize {
     match a {
         Answer::Is(n) => number(out, at, n),
         Answer::Refused(e) => refusal(out, at, e),
@@ -32,7 +36,7 @@ pub fn answer(out: &mut [u8], at: usize, a: Answer) -> usize {
 }
 
 // The bits of an index, or a refusal.
-pub fn index(out: &mut [u8], at: usize, a: Indexed) -> usize {
+pub(crate) fn index(out: &mut [u8], at: usize, a: Indexed) -> usize {
     match a {
         Indexed::At(x) => number(out, at, x.bits),
         Indexed::Refused(e) => refusal(out, at, e),
@@ -60,15 +64,25 @@ fn numbers(out: &mut [u8], at: usize, list: &[u64]) -> usize {
 }
 
 // The places that a call has written of those that it was lent, or its refusal.
-pub fn places(out: &mut [u8], at: usize, a: Answer, lent: &[u64]) -> usize {
+pub(crate) fn places(out: &mut [u8], at: usize, a: Answer, lent: &[u64]) -> usize {
     match a {
         Answer::Is(n) => {
             let k = n as usize;
-            if k <= lent.len() {
-                return numbers(out, at, &lent[0..k]);
+            if k > lent.len() {
+                return bad(out, at);
             }
-            at
+            numbers(out, at, &lent[0..k])
         }
         Answer::Refused(e) => refusal(out, at, e),
+    }
+}
+
+// Puts a reply.
+pub(crate) fn put(out: &mut [u8], at: usize, r: Reply, lent: &[u64]) -> usize {
+    match r {
+        Reply::Bad => bad(out, at),
+        Reply::Number(a) => answer(out, at, a),
+        Reply::Index(a) => index(out, at, a),
+        Reply::Places(a) => places(out, at, a, lent),
     }
 }

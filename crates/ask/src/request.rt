@@ -7,14 +7,14 @@ use text::Number;
 use words::Family;
 
 // Where the verb of a line stands, and how many places it is lent before that.
-pub enum Begun {
+pub(crate) enum Begun {
     // the places lent, and the verb's first place and the place after it
     Verb(u64, usize, usize),
     Bad,
 }
 
 // What stands after the verb.
-pub enum Rest {
+pub(crate) enum Rest {
     Words(usize),
     Bad,
 }
@@ -38,7 +38,7 @@ fn after_room(line: &[u8], from: usize) -> Begun
 }
 
 // The verb of a line, after `room R` where the line begins with that.
-pub fn head(line: &[u8]) -> Begun
+pub(crate) fn head(line: &[u8]) -> Begun
     ensures { λ r. ⌜ VerbWithin (length (now (line .entry))) r ⌝ }
 {
     let end = text::find(line, 0, b' ');
@@ -80,7 +80,7 @@ fn take(word: &[u8], i: usize, kinds: &mut [u8], values: &mut [u64]) -> bool
 }
 
 // The words from place `from` on, one space between two of them, if there are places for them all.
-pub fn words(line: &[u8], from: usize, kinds: &mut [u8], values: &mut [u64]) -> Rest
+pub(crate) fn words(line: &[u8], from: usize, kinds: &mut [u8], values: &mut [u64]) -> Rest
     ensures { λ r. ⌜ WordsWithin (length (now (kinds .exit))) (length (now (values .exit))) r ⌝ }
 {
     let mut at = from;
@@ -154,16 +154,20 @@ fn fits(kinds: &[u8], pattern: &[u8]) -> bool {
     i == kinds.len()
 }
 
-// Whether a request has this verb, and the words of this pattern after it.
-pub fn asks(verb: &[u8], name: &[u8], kinds: &[u8], pattern: &[u8]) -> bool {
-    if !check::same(verb, name) {
+// Whether a request is the one that an entry says: its verb, a space, and the pattern of the words after it.
+pub(crate) fn asks(verb: &[u8], kinds: &[u8], entry: &[u8]) -> bool {
+    let end = text::find(entry, 0, b' ');
+    if !check::same(verb, &entry[0..end]) {
         return false;
     }
-    fits(kinds, pattern)
+    if end == entry.len() {
+        return false;
+    }
+    fits(kinds, &entry[end + 1..])
 }
 
 // The family at place i.
-pub fn family(kinds: &[u8], i: usize) -> Family {
+pub(crate) fn family(kinds: &[u8], i: usize) -> Family {
     if i < kinds.len() {
         if kinds[i] == b'a' {
             return Family::Allowed;
@@ -173,7 +177,7 @@ pub fn family(kinds: &[u8], i: usize) -> Family {
 }
 
 // The number at place i.
-pub fn number(values: &[u64], i: usize) -> u64 {
+pub(crate) fn number(values: &[u64], i: usize) -> u64 {
     if i < values.len() {
         return values[i];
     }
@@ -181,7 +185,7 @@ pub fn number(values: &[u64], i: usize) -> u64 {
 }
 
 // The list that begins at place i and runs to the end.
-pub fn list(values: &[u64], i: usize) -> &[u64] {
+pub(crate) fn list(values: &[u64], i: usize) -> &[u64] {
     if i <= values.len() {
         return &values[i..];
     }

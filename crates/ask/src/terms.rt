@@ -1,6 +1,5 @@
 // The requests on terms (document 01, "Terms and their order").
-use crate::reply;
-use crate::reply::Said;
+use crate::reply::Reply;
 use crate::request;
 use answers::Answer;
 use answers::Index;
@@ -59,81 +58,71 @@ fn walked(f: Family, n: u64, k: u64, s: u64) -> Indexed {
     }
 }
 
-fn walk(out: &mut [u8], at: usize, f: Family, n: u64, k: u64, s: u64) -> usize {
+fn walk(f: Family, n: u64, k: u64, s: u64) -> Reply {
     if s == 0 {
-        return reply::bad(out, at);
+        return Reply::Bad;
     }
-    reply::index(out, at, walked(f, n, k, s))
-}
-
-fn unrank(out: &mut [u8], at: usize, f: Family, n: u64, k: u64, r: u64, lent: &mut [u64]) -> usize {
-    let a = monotone::unrank(f, n, k, r, lent);
-    reply::places(out, at, a, lent)
-}
-
-fn unpack(out: &mut [u8], at: usize, x: Index, lent: &mut [u64]) -> usize {
-    let a = monotone::unpack(x, lent);
-    reply::places(out, at, a, lent)
+    Reply::Index(walked(f, n, k, s))
 }
 
 // The requests that name an alphabet, or every one.
-pub fn over(verb: &[u8], kinds: &[u8], values: &[u64], lent: &mut [u64], out: &mut [u8], at: usize) -> Said {
+pub(crate) fn over(verb: &[u8], kinds: &[u8], values: &[u64], lent: &mut [u64]) -> Reply {
     let f = request::family(kinds, 0);
     let a = request::number(values, 1);
     let b = request::number(values, 2);
     let c = request::number(values, 3);
-    if request::asks(verb, b"count", kinds, b"Fnn") {
-        return Said::To(reply::answer(out, at, monotone::count(f, a, b)));
+    if request::asks(verb, kinds, b"count Fnn") {
+        return Reply::Number(monotone::count(f, a, b));
     }
-    if request::asks(verb, b"walk", kinds, b"Fnnn") {
-        return Said::To(walk(out, at, f, a, b, c));
+    if request::asks(verb, kinds, b"walk Fnnn") {
+        return walk(f, a, b, c);
     }
-    if request::asks(verb, b"unrank", kinds, b"Fnnn") {
-        return Said::To(unrank(out, at, f, a, b, c, lent));
+    if request::asks(verb, kinds, b"unrank Fnnn") {
+        return Reply::Places(monotone::unrank(f, a, b, c, lent));
     }
-    if request::asks(verb, b"unrankover", kinds, b"Fnnn") {
-        return Said::To(reply::index(out, at, monotone::unrank_over(f, a, b, c)));
+    if request::asks(verb, kinds, b"unrankover Fnnn") {
+        return Reply::Index(monotone::unrank_over(f, a, b, c));
     }
-    if request::asks(verb, b"unrankany", kinds, b"Fnn") {
-        return Said::To(reply::index(out, at, monotone::unrank_any(f, a, b)));
+    if request::asks(verb, kinds, b"unrankany Fnn") {
+        return Reply::Index(monotone::unrank_any(f, a, b));
     }
-    Said::Nothing
+    Reply::Bad
 }
 
 // The requests on a word.
-pub fn of_word(verb: &[u8], kinds: &[u8], values: &[u64], out: &mut [u8], at: usize) -> Said {
+pub(crate) fn of_word(verb: &[u8], kinds: &[u8], values: &[u64]) -> Reply {
     let f = request::family(kinds, 0);
     let w = request::list(values, 1);
-    if request::asks(verb, b"rank", kinds, b"F*") {
-        return Said::To(reply::answer(out, at, monotone::rank(f, w)));
+    if request::asks(verb, kinds, b"rank F*") {
+        return Reply::Number(monotone::rank(f, w));
     }
-    if request::asks(verb, b"pack", kinds, b"F*") {
-        return Said::To(reply::index(out, at, monotone::pack(f, w)));
+    if request::asks(verb, kinds, b"pack F*") {
+        return Reply::Index(monotone::pack(f, w));
     }
-    Said::Nothing
+    Reply::Bad
 }
 
 // The requests on an index.
-pub fn of_index(verb: &[u8], kinds: &[u8], values: &[u64], lent: &mut [u64], out: &mut [u8], at: usize) -> Said {
+pub(crate) fn of_index(verb: &[u8], kinds: &[u8], values: &[u64], lent: &mut [u64]) -> Reply {
     let x = Index {
         family: request::family(kinds, 0),
         bits: request::number(values, 1),
     };
     let p = request::number(values, 2);
-    if request::asks(verb, b"rankof", kinds, b"Fn") {
-        return Said::To(reply::number(out, at, monotone::rank_of(x)));
+    if request::asks(verb, kinds, b"rankof Fn") {
+        return Reply::Number(Answer::Is(monotone::rank_of(x)));
     }
-    if request::asks(verb, b"unpack", kinds, b"Fn") {
-        return Said::To(unpack(out, at, x, lent));
+    if request::asks(verb, kinds, b"unpack Fn") {
+        return Reply::Places(monotone::unpack(x, lent));
     }
-    if request::asks(verb, b"next", kinds, b"Fn") {
-        return Said::To(reply::index(out, at, monotone::successor(x)));
+    if request::asks(verb, kinds, b"next Fn") {
+        return Reply::Index(monotone::successor(x));
     }
-    if request::asks(verb, b"symbol", kinds, b"Fnn") {
-        return Said::To(reply::answer(out, at, monotone::symbol(x, p)));
+    if request::asks(verb, kinds, b"symbol Fnn") {
+        return Reply::Number(monotone::symbol(x, p));
     }
-    if request::asks(verb, b"degree", kinds, b"Fn") {
-        return Said::To(reply::number(out, at, monotone::degree(x)));
+    if request::asks(verb, kinds, b"degree Fn") {
+        return Reply::Number(Answer::Is(monotone::degree(x)));
     }
-    Said::Nothing
+    Reply::Bad
 }
