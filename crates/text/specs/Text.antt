@@ -8,7 +8,7 @@ use lib.ListN.{length, take, drop, getD}
 
 pub record Found (s : List ℕ) (from b r : ℕ) : Type 0 where
   pub within : r ≤ length s
-  pub after : from ≤ length s → from ≤ r
+  pub after : min from (length s) ≤ r
   pub none : (k : ℕ) → k < r → from ≤ k → getD s k 0 ≡ b → ⊥
   pub there : r < length s → getD s r 0 ≡ b
 

@@ -1,5 +1,6 @@
 // Text as bytes in lent slices: words and numbers are read from a slice and written into one. The programs are thin over it.
 ghost use mathlib.Core.Path.{_≡_};
+ghost use mathlib.Core.List.{[], _∷_};
 ghost use Prim.Native.Nat.{_<_};
 ghost use lib.ListN.{length, drop};
 ghost use Rattle.text.specs.Text.{Found, Put};
@@ -83,6 +84,13 @@ pub fn put(out: &mut [u8], at: usize, bytes: &[u8]) -> usize
         i += 1;
     }
     at + i
+}
+
+// Puts one byte into a lent text at place `at`, as `put` does.
+pub fn put_byte(out: &mut [u8], at: usize, b: u8) -> usize
+    ensures { λ r. ⌜ Put (now (out .entry)) at (b ∷ []) (now (out .exit)) r ⌝ }
+{
+    put(out, at, &[b])
 }
 
 // Spells n in decimal at the end of `text`, whose 20 places hold every number below 2^64, and answers the place of its first digit.

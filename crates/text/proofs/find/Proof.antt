@@ -14,7 +14,7 @@ abbrev μ-loop : tie.MeasureT-loop
 μ-loop s from b i₀ i = length s - i
 
 returns : tie.Need-returns Inv-loop μ-loop
-returns c = record { within = omega arith; after = λ h. omega arith; none = λ k l h e. omega arith; there = λ h. omega arith }
+returns c = record { within = omega arith; after = omega arith; none = λ k l h e. omega arith; there = λ h. omega arith }
 
 loop-holds : tie.Need-loop-holds Inv-loop μ-loop
 loop-holds c = (omega arith, omega arith, λ k l h e. omega arith)
@@ -23,7 +23,7 @@ shared-slice-read-if2 : tie.Need-shared-slice-read-if2 Inv-loop μ-loop
 shared-slice-read-if2 c = omega arith
 
 returns-2 : tie.Need-returns-2 Inv-loop μ-loop
-returns-2 c = record { within = omega arith; after = λ h. omega arith; none = c .before .before .before .loop .inv .2; there = λ h. c .if2 .taken }
+returns-2 c = record { within = omega arith; after = omega arith; none = c .before .before .before .loop .inv .2; there = λ h. c .if2 .taken }
 
 add-i : tie.Need-add-i Inv-loop μ-loop
 add-i c = omega arith
@@ -35,7 +35,7 @@ loop-again : tie.Need-loop-again Inv-loop μ-loop
 loop-again c = (omega arith, omega arith, below-more _ _ (c .before .before .before .loop .inv .2) (λ h. c .if2 .left))
 
 returns-3 : tie.Need-returns-3 Inv-loop μ-loop
-returns-3 c = record { within = omega arith; after = λ h. omega arith; none = c .before .loop .inv .2; there = λ h. omega arith }
+returns-3 c = record { within = omega arith; after = omega arith; none = c .before .loop .inv .2; there = λ h. omega arith }
 
 pub find-spec : {M : Type 1} → statement M
 find-spec =

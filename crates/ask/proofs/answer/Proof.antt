@@ -1,0 +1,51 @@
+-- `ask::answer` is safe and ends: the verb that `head` finds stands within the line. Assumes nothing.
+use mathlib.Core.Path.{subst}
+use lib.ListN.{length}
+use denote.Ref.{now}
+use Rattle.ask.specs.Bounds.{VerbWithin}
+use borrow.Author.Needs.{needs}
+use Rattle.ask.proofs.answer.Statement.{statement}
+use Rattle.ask.proofs.answer.Tie as tie
+
+head-requires : tie.Need-head-requires
+head-requires c κs = search needs
+
+enum-known-room : tie.Need-enum-known-room
+enum-known-room c = search needs
+
+answer-at-requires : tie.Need-answer-at-requires
+answer-at-requires c κs =
+    let at-head = c .before .before .before .before in
+    subst (VerbWithin (length (now (at-head .before .before .before .args .line)))) (c .before .before .room .given .1) (at-head .head .ensures)
+
+enum-told : tie.Need-enum-told
+enum-told c = search needs
+
+bad-requires : tie.Need-bad-requires
+bad-requires c κs = search needs
+
+same-length : tie.Need-same-length
+same-length c = search needs
+
+returns : tie.Need-returns
+returns c = search needs
+
+same-length-2 : tie.Need-same-length-2
+same-length-2 c = search needs
+
+returns-2 : tie.Need-returns-2
+returns-2 c = search needs
+
+pub answer-spec : {M : Type 1} → statement M
+answer-spec =
+    tie.close
+    (tie.spec
+    head-requires
+    enum-known-room
+    answer-at-requires
+    enum-told
+    bad-requires
+    same-length
+    returns
+    same-length-2
+    returns-2)

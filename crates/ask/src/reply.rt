@@ -1,0 +1,88 @@
+// The answer to a request, put into the buffer of the output from a place on. Each function answers the place after it.
+use answers::Answer;
+use answers::Indexed;
+use answers::Refusal;
+
+// What a request is answered with.
+pub(crate) enum Reply {
+    // it is no request
+    Bad,
+    Number(Answer),
+    Index(Indexed),
+    // how many of the lent places a call has written
+    Places(Answer),
+}
+
+pub(crate) fn bad(out: &mut [u8], at: usize) -> usize {
+    text::put(out, at, b"bad line\n")
+}
+
+pub(crate) fn refusal(out: &mut [u8], at: usize, e: Refusal) -> usize {
+    let at = text::put(out, at, b"refused ");
+    number(out, at, answers::number(e))
+}
+
+pub(crate) fn number(out: &mut [u8], at: usize, n: u64) -> usize {
+    let at = text::put_number(out, at, n);
+    text::put_byte(out, at, b'\n')
+}
+
+// A number, or a refusal.
+pub(crate) fn answer(out: &mut [u8], at: usize, a: Answer) -> usize {
+    match a {
+        Answer::Is(n) => number(out, at, n),
+        Answer::Refused(e) => refusal(out, at, e),
+    }
+}
+
+// The bits of an index, or a refusal.
+pub(crate) fn index(out: &mut [u8], at: usize, a: Indexed) -> usize {
+    match a {
+        Indexed::At(x) => number(out, at, x.bits),
+        Indexed::Refused(e) => refusal(out, at, e),
+    }
+}
+
+// The i-th number of a list, after a space where it is not the first.
+fn item(out: &mut [u8], at: usize, i: usize, n: u64) -> usize {
+    if i == 0 {
+        return text::put_number(out, at, n);
+    }
+    let at = text::put_byte(out, at, b' ');
+    text::put_number(out, at, n)
+}
+
+// Numbers, with a space between two of them.
+fn numbers(out: &mut [u8], at: usize, list: &[u64]) -> usize {
+    let mut to = at;
+    let mut i = 0;
+    while i < list.len() {
+        to = item(out, to, i, list[i]);
+        i += 1;
+    }
+    text::put_byte(out, to, b'\n')
+}
+
+// The places that a call has written of those that it was lent, or its refusal.
+pub(crate) fn places(out: &mut [u8], at: usize, a: Answer, lent: &[u64]) -> usize {
+    match a {
+        Answer::Is(n) => {
+            let k = n as usize;
+            if k > lent.len() {
+                return bad(out, at);
+            }
+            numbers(out, at, &lent[0..k])
+        }
+        Answer::Refused(e) => refusal(out, at, e),
+    }
+}
+
+// Puts a reply.
+pub(crate) fn put(out: &mut [u8], at: usize, r: Reply, lent: &[u64]) -> usize {
+    match r {
+        Reply::Bad => bad(out, at),
+        Reply::Number(a) => answer(out, at, a),
+        Reply::Index(a) => index(out, at, a),
+        Reply::Places(a) => places(out, at, a, lent),
+    }
+}

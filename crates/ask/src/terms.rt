@@ -1,0 +1,128 @@
+// The requests on terms (document 01, "Terms and their order").
+use crate::reply::Reply;
+use crate::request;
+use answers::Answer;
+use answers::Index;
+use answers::Indexed;
+use answers::Refusal;
+use monotone::Started;
+use monotone::Stepped;
+use monotone::Walk;
+use words::Family;
+
+// The index that the s-th step of a walk gives, or the first refusal on the way.
+fn stepped(walk: Walk, s: u64) -> Indexed {
+    let mut w = walk;
+    let mut i = 1;
+    while i < s {
+        match monotone::step(w) {
+            Stepped::Step(_, next) => {
+                w = next;
+                i += 1;
+            }
+            Stepped::Refused(e) => {
+                return Indexed::Refused(e);
+            }
+        }
+    }
+    match monotone::step(w) {
+        Stepped::Step(x, _) => Indexed::At(x),
+        Stepped::Refused(e) => Indexed::Refused(e),
+    }
+}
+
+// The same without the steps before it: a walk lists the words in their order, so its s-th step gives the index of rank s - 1.
+fn far_step(f: Family, n: u64, k: u64, s: u64) -> Indexed {
+    match monotone::count(f, n, k) {
+        Answer::Is(count) => {
+            if s > count {
+                return Indexed::Refused(Refusal::Last);
+            }
+            if s == 0 {
+                return Indexed::Refused(Refusal::Last);
+            }
+            monotone::unrank_over(f, n, k, s - 1)
+        }
+        Answer::Refused(e) => Indexed::Refused(e),
+    }
+}
+
+// What the s-th step of a walk gives: by steps up to the 4,096th, and by the rank beyond.
+fn walked(f: Family, n: u64, k: u64, s: u64) -> Indexed {
+    if s > 4096 {
+        return far_step(f, n, k, s);
+    }
+    match monotone::start(f, n, k) {
+        Started::Walk(w) => stepped(w, s),
+        Started::Refused(e) => Indexed::Refused(e),
+    }
+}
+
+fn walk(f: Family, n: u64, k: u64, s: u64) -> Reply {
+    if s == 0 {
+        return Reply::Bad;
+    }
+    Reply::Index(walked(f, n, k, s))
+}
+
+// The requests that name an alphabet, or every one.
+pub(crate) fn over(verb: &[u8], kinds: &[u8], values: &[u64], lent: &mut [u64]) -> Reply {
+    let f = request::family(kinds, 0);
+    let a = request::number(values, 1);
+    let b = request::number(values, 2);
+    let c = request::number(values, 3);
+    if request::asks(verb, kinds, b"count Fnn") {
+        return Reply::Number(monotone::count(f, a, b));
+    }
+    if request::asks(verb, kinds, b"walk Fnnn") {
+        return walk(f, a, b, c);
+    }
+    if request::asks(verb, kinds, b"unrank Fnnn") {
+        return Reply::Places(monotone::unrank(f, a, b, c, lent));
+    }
+    if request::asks(verb, kinds, b"unrankover Fnnn") {
+        return Reply::Index(monotone::unrank_over(f, a, b, c));
+    }
+    if request::asks(verb, kinds, b"unrankany Fnn") {
+        return Reply::Index(monotone::unrank_any(f, a, b));
+    }
+    Reply::Bad
+}
+
+// The requests on a word.
+pub(crate) fn of_word(verb: &[u8], kinds: &[u8], values: &[u64]) -> Reply {
+    let f = request::family(kinds, 0);
+    let w = request::list(values, 1);
+    if request::asks(verb, kinds, b"rank F*") {
+        return Reply::Number(monotone::rank(f, w));
+    }
+    if request::asks(verb, kinds, b"pack F*") {
+        return Reply::Index(monotone::pack(f, w));
+    }
+    Reply::Bad
+}
+
+// The requests on an index.
+pub(crate) fn of_index(verb: &[u8], kinds: &[u8], values: &[u64], lent: &mut [u64]) -> Reply {
+    let x = Index {
+        family: request::family(kinds, 0),
+        bits: request::number(values, 1),
+    };
+    let p = request::number(values, 2);
+    if request::asks(verb, kinds, b"rankof Fn") {
+        return Reply::Number(Answer::Is(monotone::rank_of(x)));
+    }
+    if request::asks(verb, kinds, b"unpack Fn") {
+        return Reply::Places(monotone::unpack(x, lent));
+    }
+    if request::asks(verb, kinds, b"next Fn") {
+        return Reply::Index(monotone::successor(x));
+    }
+    if request::asks(verb, kinds, b"symbol Fnn") {
+        return Reply::Number(monotone::symbol(x, p));
+    }
+    if request::asks(verb, kinds, b"degree Fn") {
+        return Reply::Number(Answer::Is(monotone::degree(x)));
+    }
+    Reply::Bad
+}

@@ -1,0 +1,226 @@
+#!/usr/bin/env python3
+"""An independent model of document 01, written from the document alone. It answers what the programs answer:
+
+    model.py terms < crates/terms_cases/stdin    what 01's program writes for each line of the input
+    model.py ask < crates/ask/stdin              the answer of `ask` to each line of the input
+    model.py test                                compares the model with words listed one by one, where there are few
+"""
+import itertools
+import re
+import sys
+from math import comb
+
+MAX_LINE, MAX_LIST = 4096, 80
+TOO_WIDE, NOT_MONOTONE, NO_SUCH_RANK, LAST, OUTSIDE, SHAPE = 1, 2, 3, 4, 7, 8
+
+
+class Refused(Exception):
+    pass
+
+
+def refuse_if(test, number):
+    if test:
+        raise Refused(number)
+
+
+# ---- words, ranks and indices
+
+def shift(family, i):
+    return i if family == "allowed" else 0
+
+
+def shifted_alphabet(family, n, k):
+    return n + k - 1 if family == "allowed" and k > 0 else n
+
+
+def count(family, n, k):
+    refuse_if(k > 64 or shifted_alphabet(family, n, k) > 64, TOO_WIDE)
+    return comb(shifted_alphabet(family, n, k), k)
+
+
+def set_of(bits):
+    return [s for s in range(64) if bits >> s & 1]
+
+
+def bits_of(symbols):
+    return sum(1 << s for s in symbols)
+
+
+def rank_of_set(symbols):
+    return sum(comb(s, i + 1) for i, s in enumerate(symbols))
+
+
+def set_of_rank(k, r):
+    symbols = []
+    for i in range(k, 0, -1):
+        s = max(s for s in range(64) if comb(s, i) <= r)
+        r -= comb(s, i)
+        symbols.insert(0, s)
+    return symbols
+
+
+def word_of(family, bits):
+    return [s - shift(family, i) for i, s in enumerate(set_of(bits))]
+
+
+def unrank_over(family, n, k, r):
+    refuse_if(r >= count(family, n, k), NO_SUCH_RANK)
+    return bits_of(set_of_rank(k, r))
+
+
+def unrank_any(family, k, r):
+    refuse_if(k > 64, TOO_WIDE)
+    return unrank_over(family, 64 if family == "forbidden" or k == 0 else 65 - k, k, r)
+
+
+def pack(family, word):
+    refuse_if(len(word) > 64, TOO_WIDE)
+    rising = all(x < y if family == "forbidden" else x <= y for x, y in zip(word, word[1:]))
+    refuse_if(not rising, NOT_MONOTONE)
+    shifted = [x + shift(family, i) for i, x in enumerate(word)]
+    refuse_if(word and shifted[-1] > 63, TOO_WIDE)
+    return bits_of(shifted)
+
+
+def rank_of(family, bits):
+    return rank_of_set(set_of(bits))
+
+
+def unpack(family, bits, room):
+    word = word_of(family, bits)
+    refuse_if(len(word) > room, SHAPE)
+    return word
+
+
+def successor(family, bits):
+    k, r = len(set_of(bits)), rank_of(family, bits) + 1
+    refuse_if(r >= comb(64, k), LAST)
+    return bits_of(set_of_rank(k, r))
+
+
+def symbol(family, bits, p):
+    word = word_of(family, bits)
+    refuse_if(p >= len(word), OUTSIDE)
+    return word[p]
+
+
+def walk(family, n, k, s):
+    refuse_if(s > count(family, n, k), LAST)
+    return bits_of(set_of_rank(k, s - 1))
+
+
+# ---- the requests: a pattern of the words after the verb (F a family, n a number, * a list), and the answer
+
+REQUESTS = {
+    "count": ("F n n", lambda room, f, n, k: count(f, n, k)),
+    "walk": ("F n n s", lambda room, f, n, k, s: walk(f, n, k, s)),
+    "unrank": ("F n n n", lambda room, f, n, k, r: unpack(f, unrank_over(f, n, k, r), room)),
+    "unrankover": ("F n n n", lambda room, f, n, k, r: unrank_over(f, n, k, r)),
+    "unrankany": ("F n n", lambda room, f, k, r: unrank_any(f, k, r)),
+    "rank": ("F *", lambda room, f, w: rank_of(f, pack(f, w))),
+    "rankof": ("F n", lambda room, f, x: rank_of(f, x)),
+    "pack": ("F *", lambda room, f, w: pack(f, w)),
+    "unpack": ("F n", lambda room, f, x: unpack(f, x, room)),
+    "next": ("F n", lambda room, f, x: successor(f, x)),
+    "symbol": ("F n n", lambda room, f, x, p: symbol(f, x, p)),
+    "degree": ("F n", lambda room, f, x: len(set_of(x))),
+}
+
+
+class Bad(Exception):
+    pass
+
+
+def number(word):
+    if not re.fullmatch("0|[1-9][0-9]*", word) or int(word) >= 2**64:
+        raise Bad
+    return int(word)
+
+
+def arguments(pattern, words):
+    taken = []
+    for part in pattern.split():
+        if part == "*":
+            stop = words.index("/") if "/" in words else len(words)
+            if stop > MAX_LIST:
+                raise Bad
+            taken.append([number(w) for w in words[:stop]])
+            words = words[stop:]
+            continue
+        if not words:
+            raise Bad
+        if part == "F" and words[0] not in ("forbidden", "allowed") or part == "/" and words[0] != "/":
+            raise Bad
+        value = words[0] if part == "F" else number(words[0]) if part in "ns" else None
+        if part == "s" and value == 0:
+            raise Bad
+        taken += [value] if part != "/" else []
+        words = words[1:]
+    if words:
+        raise Bad
+    return taken
+
+
+def asked(line):
+    words, room = line.split(" "), MAX_LIST
+    if words[0] == "room" and len(words) > 1:
+        room, words = min(number(words[1]), MAX_LIST), words[2:]
+    if not words or words[0] not in REQUESTS:
+        raise Bad
+    pattern, answer = REQUESTS[words[0]]
+    value = answer(room, *arguments(pattern, words[1:]))
+    return " ".join(map(str, value)) if isinstance(value, list) else str(value)
+
+
+def ask(line):
+    try:
+        if len(line) > MAX_LINE:
+            raise Bad
+        return asked(line)
+    except Bad:
+        return "bad line"
+    except Refused as e:
+        return f"refused {e}"
+
+
+# ---- the program of document 01
+
+def terms(line):
+    try:
+        words = line.split(" ")
+        family, n, k = arguments("F n n", words)
+        c = count(family, n, k)
+    except Bad:
+        return "bad line"
+    except Refused as e:
+        return f"refused {e}"
+    lines = [f"{family} {n} {k} {c}"]
+    if c <= 4096:
+        lines += [" ".join([f"{r}:"] + list(map(str, word_of(family, unrank_over(family, n, k, r))))) for r in range(c)]
+    return "\n".join(lines)
+
+
+# ---- the definitions themselves, where the words can be listed
+
+def test():
+    for family, n, k in itertools.product(("forbidden", "allowed"), range(6), range(6)):
+        choose = itertools.combinations if family == "forbidden" else itertools.combinations_with_replacement
+        colex = sorted(choose(range(n), k), key=lambda w: w[::-1])
+        assert count(family, n, k) == len(colex)
+        for r, word in enumerate(map(list, colex)):
+            bits = pack(family, word)
+            assert word_of(family, bits) == word and rank_of(family, bits) == r and unrank_over(family, n, k, r) == bits
+            if r + 1 < len(colex):
+                assert successor(family, bits) == pack(family, list(colex[r + 1]))
+
+
+def main():
+    if sys.argv[1] == "test":
+        return test()
+    answer = {"ask": ask, "terms": terms}[sys.argv[1]]
+    lines = sys.stdin.buffer.read().decode("latin-1").split("\n")
+    for line in lines if lines[-1] else lines[:-1]:
+        print(answer(line))
+
+
+main()
