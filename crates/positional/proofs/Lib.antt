@@ -1,2 +1,5 @@
 pub mod Digits
 pub mod Counted
+pub mod Strides
+pub mod Parts
+pub mod Equal
