@@ -44,17 +44,17 @@ number-below (r ∷ rs) (d ∷ ds) g =
     omega (arith, g .0, mul-le-mul-left r (number-below rs ds (g .1)))
 
 -- a number below r * p leaves below p after a division by r, and r is not 0
-radix-pos : (r p x : ℕ) → x < r * p → 0 < r
-radix-pos zero p x h = absurd (omega arith)
-radix-pos (suc r) p x h = zero-lt-suc r
+divisor-pos : (r p x : ℕ) → x < r * p → 0 < r
+divisor-pos zero p x h = absurd (omega arith)
+divisor-pos (suc r) p x h = zero-lt-suc r
 
 pub quotient-below : (r p x : ℕ) → x < r * p → x / r < p
-quotient-below r p x h = div-lt-iff-lt-mul (radix-pos r p x h) .1 (omega (arith, mul-comm r p))
+quotient-below r p x h = div-lt-iff-lt-mul (divisor-pos r p x h) .1 (omega (arith, mul-comm r p))
 
 pub digits-good : (rs : List ℕ) (x : ℕ) → x < product rs → Digits rs (digitsOf rs x)
 unfolding product digitsOf
 digits-good [] x h = tt
-digits-good (r ∷ rs) x h = (mod-lt x (radix-pos r (product rs) x h), digits-good rs (x / r) (quotient-below r (product rs) x h))
+digits-good (r ∷ rs) x h = (mod-lt x (divisor-pos r (product rs) x h), digits-good rs (x / r) (quotient-below r (product rs) x h))
 
 pub number-of-digits : (rs : List ℕ) (x : ℕ) → x < product rs → numberOf rs (digitsOf rs x) ≡ x
 unfolding product numberOf digitsOf

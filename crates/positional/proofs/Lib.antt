@@ -3,3 +3,4 @@ pub mod Counted
 pub mod Strides
 pub mod Parts
 pub mod Equal
+pub mod Corner

@@ -3,12 +3,13 @@
 --   digits-take, digits-drop    good digits below a position, and from there up
 --   number-split    a number by these two parts of its digits
 --   number-low, number-high    what it leaves, and what it goes to, at a division by the stride
+--   number-high-least    it is no smaller than its digits from a position up make
 --   digits-of-long, digit-is    a number has as many digits as there are radices; the digit at a position, by its stride
 --   digits-without, number-without    a position taken out: the digits below keep their place, those above slide down one
 use mathlib.Core.Path.{_≡_, refl, sym, ap, ap₂, _∙_}
 use mathlib.Core.List.{List, [], _∷_, _++_}
-use Prim.Native.Nat.{ℕ, zero, suc, _+_, _*_, _/_, _%_, _<_}
-use native.Mathlib.Nat.{not-suc-le-zero, le-of-suc-le-suc, div-one, div-div-eq-div-mul}
+use Prim.Native.Nat.{ℕ, zero, suc, _+_, _*_, _/_, _%_, _<_, _≤_}
+use native.Mathlib.Nat.{not-suc-le-zero, le-of-suc-le-suc, mul-le-mul-right, div-one, div-div-eq-div-mul}
 use native.Mathlib.Omega.{arith}
 use lib.ListN.{length, getD, take, drop, take-append-drop}
 use Rattle.positional.specs.Positional.{product, stride, Digits, numberOf, digitsOf, without}
@@ -57,6 +58,12 @@ pub number-high : (rs ds : List ℕ) (i : ℕ) → Digits rs ds → numberOf rs 
 number-high rs ds i g =
     ap (λ (x : ℕ). x / stride rs i) (number-split rs ds i g)
     ∙ upper-digits (stride rs i) (numberOf (take i rs) (take i ds)) (numberOf (drop i rs) (drop i ds)) (number-below (take i rs) (take i ds) (digits-take rs ds i g))
+
+pub number-high-least : (rs ds : List ℕ) (i : ℕ) → Digits rs ds → numberOf (drop i rs) (drop i ds) ≤ numberOf rs ds
+number-high-least rs ds i g =
+    let l : numberOf (take i rs) (take i ds) < stride rs i = number-below (take i rs) (take i ds) (digits-take rs ds i g) in
+    let k : 1 ≤ stride rs i = omega arith in
+    omega (arith, number-split rs ds i g, mul-le-mul-right (numberOf (drop i rs) (drop i ds)) k)
 
 pub digits-of-long : (rs : List ℕ) (x : ℕ) → length (digitsOf rs x) ≡ length rs
 unfolding digitsOf

@@ -2,7 +2,7 @@
 --   product-append    the product of a list in two parts
 --   stride-next    the stride after a position is its stride times its radix
 --   stride-all    past the last position it is the product
---   stride-divides    the product is a stride times the product of the radices from there up
+--   radix-pos    no radix of a product that is not 0 is 0
 --   values-long, values-at    the list of the values of f
 --   strides-long, strides-at    the list of the strides
 --   weighed ds ss    the sum of the digits times the numbers at their positions
@@ -10,9 +10,9 @@
 use mathlib.Core.Path.{_≡_, refl, sym, ap, _∙_}
 use mathlib.Core.List.{List, [], _∷_, _++_}
 use Prim.Native.Nat.{ℕ, zero, suc, _+_, _*_, _<_, _≤_}
-use native.Mathlib.Nat.{not-suc-le-zero, le-of-suc-le-suc, one-mul, mul-one}
+use native.Mathlib.Nat.{not-suc-le-zero, le-of-suc-le-suc, zero-lt-suc, lt-of-mul-lt-mul-left, one-mul, mul-one}
 use native.Mathlib.Omega.{arith}
-use lib.ListN.{length, getD, take, drop, take-append-drop}
+use lib.ListN.{length, getD, take}
 use lib.Seq.{take-all, take-suc}
 use Rattle.positional.specs.Positional.{product, stride, valuesOf, strides, numberOf}
 
@@ -28,8 +28,12 @@ stride-next rs i h = ap product (take-suc rs i 0 h) ∙ product-append (take i r
 pub stride-all : (rs : List ℕ) (i : ℕ) → length rs ≤ i → stride rs i ≡ product rs
 stride-all rs i h = ap product (take-all i rs h)
 
-pub stride-divides : (rs : List ℕ) (i : ℕ) → product rs ≡ stride rs i * product (drop i rs)
-stride-divides rs i = ap product (sym (take-append-drop i rs)) ∙ product-append (take i rs) (drop i rs)
+pub radix-pos : (rs : List ℕ) (i : ℕ) → 0 < product rs → i < length rs → 0 < getD rs i 0
+unfolding product
+radix-pos [] i p h = absurd (not-suc-le-zero h)
+radix-pos (zero ∷ rs) i p h = absurd (omega arith)
+radix-pos (suc r ∷ rs) zero p h = zero-lt-suc r
+radix-pos (suc r ∷ rs) (suc i) p h = radix-pos rs i (lt-of-mul-lt-mul-left (suc r) (omega arith)) (le-of-suc-le-suc h)
 
 -- ---- the list of the strides
 

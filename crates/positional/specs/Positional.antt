@@ -3,6 +3,7 @@
 --   product rs    the product of the radices, 1 for none
 --   stride rs i    what a digit at position i is worth: the product of the radices before it
 --   strides rs    the stride of each position
+--   cornerOf rs axes    the sum of the strides of the chosen positions
 --   Digits rs ds    as many digits as radices, each below its radix
 --   numberOf rs ds    the number that has the digits ds: d0 + r0 * (d1 + r1 * ..)
 --   digitsOf rs x    the digits of x: x % r0, and then those of x / r0
@@ -25,6 +26,10 @@ valuesOf f (suc n) = f zero ∷ valuesOf (λ i. f (suc i)) n
 
 abbrev pub strides : List ℕ → List ℕ
 strides rs = valuesOf (stride rs) (length rs)
+
+unfoldable pub cornerOf : List ℕ → List ℕ → ℕ
+cornerOf rs [] = 0
+cornerOf rs (a ∷ axes) = stride rs a + cornerOf rs axes
 
 abbrev pub Digits : List ℕ → List ℕ → Type 0
 Digits [] [] = Unit {0}

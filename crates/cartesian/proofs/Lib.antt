@@ -1,0 +1,4 @@
+pub mod Products
+pub mod Tuples
+pub mod Writing
+pub mod Corners
