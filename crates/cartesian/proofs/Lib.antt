@@ -1,4 +1,5 @@
 pub mod Products
 pub mod Tuples
+pub mod Rules
 pub mod Writing
 pub mod Corners

@@ -6,6 +6,7 @@
 --   partial-starts, partial-turn    before the first radix, and one radix more
 --   partial-stops, partial-ends    what the rule says where one product more is 2^64 or more, and where none is
 --   size-by-partial    the product of all radices is that of the first ones, up to their number
+--   partial-given, size-given    what the rule tells where it does not refuse
 use mathlib.Core.Path.{_≡_, refl, sym, ap, ap₂, subst, _∙_}
 use mathlib.Core.Bool.{Bool, true, false}
 use mathlib.Core.Logic.{_⊎_, inl, inr, ⊎-elim}
@@ -21,6 +22,7 @@ use Rattle.words.specs.Pick.{pick}
 use Rattle.positional.specs.Positional.{product, stride}
 use Rattle.positional.proofs.Strides.{stride-next, stride-all}
 use Rattle.answers.specs.Says.{gives, refuses}
+use Rattle.answers.proofs.Says.{gives-same, passed}
 use Rattle.cartesian.specs.Checks.{someUpTo, tooBig}
 use Rattle.cartesian.specs.Rules.{partialSays, sizeSays}
 
@@ -85,3 +87,17 @@ partial-ends rs n p i k e = subst (λ (j : ℕ). gives p ≡ partialSays rs j) e
 
 pub size-by-partial : (rs : List ℕ) → partialSays rs (length rs) ≡ sizeSays rs
 size-by-partial rs = simp (stride-all rs (length rs) (le-refl (length rs)))
+
+-- ---- what the rule tells where it does not refuse
+
+pub partial-given : (rs : List ℕ) (n c : ℕ) → partialSays rs n ≡ gives c → tooBig rs n ≡ false
+partial-given rs n c e = passed (tooBig rs n) 9 (gives (stride rs n)) c e .0
+
+pub size-given : (rs : List ℕ) (c : ℕ) → sizeSays rs ≡ gives c → (c ≡ product rs) × (product rs < 2 ^ 64)
+size-given rs c e = go (passed (tooBig rs (length rs)) 9 (gives (product rs)) c e)
+  where
+    go : (tooBig rs (length rs) ≡ false) × (gives (product rs) ≡ gives c) → (c ≡ product rs) × (product rs < 2 ^ 64)
+    go p = (
+      sym (gives-same (product rs) c (p .1)),
+      subst (λ (q : ℕ). q < 2 ^ 64) (stride-all rs (length rs) (le-refl (length rs))) (stride-fits rs (length rs) (length rs) (p .0) (le-refl (length rs))),
+    )

@@ -71,10 +71,10 @@ above-turn rs ds n i g k h = go (i - 1) (omega arith)
         record {
           axes = omega (arith, k .axes);
           is = omega (
-              arith,
-              ap (λ (m : ℕ). getD rs j 0 * m) (k .is ∙ ap (λ (m : ℕ). numberOf (drop m rs) (drop m ds)) e),
-              ap₂ numberOf (drop-cons rs j 0 (omega (arith, k .axes))) (drop-cons ds j 0 (omega (arith, k .axes, digits-long rs ds g))),
-            );
+            arith,
+            ap (λ (m : ℕ). getD rs j 0 * m) (k .is ∙ ap (λ (m : ℕ). numberOf (drop m rs) (drop m ds)) e),
+            ap₂ numberOf (drop-cons rs j 0 (omega (arith, k .axes))) (drop-cons ds j 0 (omega (arith, k .axes, digits-long rs ds g))),
+          );
         }
 
 pub above-fits : (rs ds : List ℕ) (n i : ℕ) → Digits rs ds → Above rs ds n i → n ≤ numberOf rs ds

@@ -74,6 +74,13 @@ fn write_strides(radices: &[u64], out: &mut [u64])
     }
 }
 
+// One less than n; 0 for 0.
+fn one_less(n: usize) -> usize
+    ensures { λ r. ⌜ r ≡ n - 1 ⌝ }
+{
+    if n == 0 { 0 } else { n - 1 }
+}
+
 // The strides of a shape, written into a lent output: 1; 9 by the products up to one less than all radices; 8. The answer is how many places are written.
 pub fn strides(radices: &[u64], out: &mut [u64]) -> Answer
     ensures says { λ r. ⌜ answerSays r ≡ placesOf (stridesSays (now (radices .entry)) (length (now (out .entry)))) ⌝ }
@@ -83,8 +90,7 @@ pub fn strides(radices: &[u64], out: &mut [u64]) -> Answer
     if 16 < n {
         return Answer::Refused(Refusal::TooWide);
     }
-    let upto = if n == 0 { 0 } else { n - 1 };
-    let a = partial(radices, upto);
+    let a = partial(radices, one_less(n));
     let Answer::Is(_) = a else {
         return a;
     };

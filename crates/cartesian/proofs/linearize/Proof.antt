@@ -1,50 +1,46 @@
+-- `cartesian::linearize` meets its contract. Assumes nothing.
+use mathlib.Core.Path.{sym, ap, _∙_}
 use borrow.Author.Needs.{needs}
+use borrow.Author.Tests.{lt-ltb, le-ltb, eq-eqb, ne-eqb, not-true, not-false}
+use Rattle.answers.specs.Says.{answerSays}
+use Rattle.cartesian.proofs.Products.{size-given}
+use Rattle.cartesian.proofs.Tuples.{within-is-digits}
 use Rattle.cartesian.proofs.linearize.Statement.{statement}
 use Rattle.cartesian.proofs.linearize.Tie as tie
-use Rattle.cartesian.proofs.linearize.Reads as reads
-use Rattle.cartesian.proofs.linearize.Lts as lts
-use Rattle.cartesian.proofs.number.Reads as number-reads
-use Rattle.cartesian.proofs.size.Reads as size-reads
-use Rattle.cartesian.proofs.within.Reads as within-reads
 
--- src/lib.rt:132:9
 returns : tie.Need-returns
-returns c = ?
+returns c = simp (lt-ltb _ _ (c .if1 .taken))
 
--- src/lib.rt:135:9
 returns-2 : tie.Need-returns-2
-returns-2 c = ?
+returns-2 c = simp (le-ltb _ _ (c .before .if1 .left), ne-eqb _ _ (c .if2 .taken))
 
--- src/lib.rt:137:9
 within-requires : tie.Need-within-requires
 within-requires c κs = search needs
 
--- src/lib.rt:138:9
 returns-3 : tie.Need-returns-3
-returns-3 c = ?
+returns-3 c = simp (le-ltb _ _ (c .before .before .before .if1 .left), eq-eqb _ _ (c .before .before .if2 .left), sym (c .before .within .ensures) ∙ not-true _ (c .if3 .taken))
 
--- src/lib.rt:140:9
 size-requires : tie.Need-size-requires
 size-requires c κs = search needs
 
 enum-told : tie.Need-enum-told
 enum-told c = search needs
 
--- src/lib.rt:142:9
 enum-told-2 : tie.Need-enum-told-2
 enum-told-2 c = search needs
 
--- src/lib.rt:142:9
 returns-4 : tie.Need-returns-4
-returns-4 c = ?
+returns-4 c = simp (le-ltb _ _ (c .before .before .before .before .before .before .if1 .left), eq-eqb _ _ (c .before .before .before .before .before .if2 .left), sym (c .before .before .before .before .within .ensures) ∙ not-false _ (c .before .before .before .if3 .left), sym (c .before .before .size .ensures), c .enum-told2 .given .1)
 
--- src/lib.rt:144:16
 number-requires : tie.Need-number-requires
-number-requires c κs = ?
+number-requires c κs =
+    let a = c .before .before .before .before .before .before .before .before .before .args in (
+      within-is-digits (a .radices .now) (a .digits .now) (c .before .before .before .before .before .if2 .left) .0 (sym (c .before .before .before .before .within .ensures) ∙ not-false _ (c .before .before .before .if3 .left)),
+      size-given (a .radices .now) _ (sym (c .before .before .size .ensures) ∙ ap answerSays (c .enum-told .given .1)) .1,
+    )
 
--- src/lib.rt:128:1
 returns-5 : tie.Need-returns-5
-returns-5 c = ?
+returns-5 c = simp (le-ltb _ _ (c .before .before .before .before .before .before .before .if1 .left), eq-eqb _ _ (c .before .before .before .before .before .before .if2 .left), sym (c .before .before .before .before .before .within .ensures) ∙ not-false _ (c .before .before .before .before .if3 .left), sym (c .before .before .before .size .ensures), c .before .enum-told .given .1, c .number .ensures)
 
 pub linearize-spec : {M : Type 1} → statement M
 linearize-spec =

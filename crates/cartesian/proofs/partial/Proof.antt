@@ -8,9 +8,6 @@ use lib.ListN.{getD}
 use Rattle.cartesian.proofs.Products.{Partial, partial-starts, partial-turn, partial-stops, partial-ends}
 use Rattle.cartesian.proofs.partial.Statement.{statement}
 use Rattle.cartesian.proofs.partial.Tie as tie
-use Rattle.cartesian.proofs.partial.Reads as reads
-use Rattle.cartesian.proofs.partial.Lts as lts
-use Rattle.cartesian.proofs.exceeds.Reads as exceeds-reads
 
 abbrev Inv-loop : tie.InvT-loop
 Inv-loop radices upto product₀ i₀ product i = (i ≤ upto) × Partial radices product i

@@ -1,48 +1,49 @@
+-- `cartesian::plus` meets its contract: a number of 2^64 or more stays one. Assumes nothing.
+use mathlib.Core.Path.{sym, ap, ap₂, _∙_}
+use Prim.Native.Nat.{ℕ, _+_}
+use native.Mathlib.Omega.{arith}
 use borrow.Author.Needs.{needs}
+use Rattle.answers.specs.Says.{gives, answerSays}
+use Rattle.cartesian.proofs.Corners.{fits-small, fits-big, fits-given, stays-big}
 use Rattle.cartesian.proofs.plus.Statement.{statement}
 use Rattle.cartesian.proofs.plus.Tie as tie
-use Rattle.cartesian.proofs.plus.Reads as reads
-use Rattle.cartesian.proofs.plus.Lts as lts
 
--- src/lib.rt:184:20
 enum-known-a : tie.Need-enum-known-a
 enum-known-a c = search needs
 
--- src/lib.rt:185:9
 enum-told : tie.Need-enum-told
 enum-told c = search needs
 
--- src/lib.rt:185:9
 returns : tie.Need-returns
-returns c = ?
+returns c = λ m n p q. p ∙ stays-big m (m + n) _ (sym (ap answerSays (c .enum-told .given .1)) ∙ p) (omega arith)
 
--- src/lib.rt:187:20
 enum-known-b : tie.Need-enum-known-b
 enum-known-b c = search needs
 
--- src/lib.rt:188:9
 enum-told-2 : tie.Need-enum-told-2
 enum-told-2 c = search needs
 
--- src/lib.rt:188:9
 returns-2 : tie.Need-returns-2
-returns-2 c = ?
+returns-2 c = λ m n p q. q ∙ stays-big n (m + n) _ (sym (ap answerSays (c .enum-told2 .given .1)) ∙ q) (omega arith)
 
--- src/lib.rt:190:8
 sub-if1 : tie.Need-sub-if1
 sub-if1 c = search needs
 
--- src/lib.rt:191:9
 returns-3 : tie.Need-returns-3
-returns-3 c = ?
+returns-3 c = λ m n p q. sym (fits-big (m + n) (omega (
+  arith,
+  fits-given m _ (sym (ap answerSays (c .before .before .before .before .before .a .given .1)) ∙ p),
+  fits-given n _ (sym (ap answerSays (c .before .before .b .given .1)) ∙ q),
+)))
 
--- src/lib.rt:193:16
 add-t5 : tie.Need-add-t5
 add-t5 c = search needs
 
--- src/lib.rt:181:1
 returns-4 : tie.Need-returns-4
-returns-4 c = ?
+returns-4 c = λ m n p q.
+    let e = fits-given m _ (sym (ap answerSays (c .before .before .before .before .before .a .given .1)) ∙ p) in
+    let f = fits-given n _ (sym (ap answerSays (c .before .before .b .given .1)) ∙ q) in
+    ap₂ (λ (x y : ℕ). gives (x + y)) e f ∙ sym (fits-small (m + n) (omega arith))
 
 pub plus-spec : {M : Type 1} → statement M
 plus-spec =

@@ -1,56 +1,59 @@
+-- `cartesian::strides` meets its contract. Assumes nothing.
+use mathlib.Core.Path.{_≡_, refl, sym, ap, subst, _∙_}
+use mathlib.Core.Bool.{false}
+use Prim.Native.Nat.{ℕ}
 use borrow.Author.Needs.{needs}
+use borrow.Author.Tests.{lt-ltb, le-ltb}
+use Rattle.positional.proofs.Strides.{strides-long}
+use Rattle.answers.specs.Says.{gives, answerSays}
+use Rattle.cartesian.specs.Checks.{tooBig}
+use Rattle.cartesian.proofs.Products.{partial-given}
 use Rattle.cartesian.proofs.strides.Statement.{statement}
 use Rattle.cartesian.proofs.strides.Tie as tie
-use Rattle.cartesian.proofs.strides.Reads as reads
-use Rattle.cartesian.proofs.strides.Lts as lts
-use Rattle.cartesian.proofs.partial.Reads as partial-reads
-use Rattle.cartesian.proofs.write_strides.Reads as write-strides-reads
 
--- src/lib.rt:84:9
 returns : tie.Need-returns
-returns c = ?
+returns c = simp (lt-ltb _ _ (c .if1 .taken)) (refl, refl)
 
--- src/lib.rt:86:39
-sub-upto : tie.Need-sub-upto
-sub-upto c = search needs
+one-less-requires : tie.Need-one-less-requires
+one-less-requires c κs = search needs
 
--- src/lib.rt:87:9
 partial-requires : tie.Need-partial-requires
-partial-requires c κs = ?
+partial-requires c κs = search needs
 
 enum-told : tie.Need-enum-told
 enum-told c = search needs
 
--- src/lib.rt:89:9
 enum-told-2 : tie.Need-enum-told-2
 enum-told-2 c = search needs
 
--- src/lib.rt:89:9
 returns-2 : tie.Need-returns-2
-returns-2 c = ?
+returns-2 c =
+    simp (le-ltb _ _ (c .before .before .before .before .if1 .left), sym (c .before .before .before .one-less .ensures), sym (c .before .before .partial .ensures), c .enum-told2 .given .1) (refl, refl)
 
--- src/lib.rt:92:9
 returns-3 : tie.Need-returns-3
-returns-3 c = ?
+returns-3 c =
+    simp (le-ltb _ _ (c .before .before .before .before .before .if1 .left), sym (c .before .before .before .before .one-less .ensures), sym (c .before .before .before .partial .ensures), c .before .enum-told .given .1, lt-ltb _ _ (c .if2 .taken)) (refl, refl)
 
--- src/lib.rt:94:5
 write-strides-requires : tie.Need-write-strides-requires
-write-strides-requires c κs = ?
+write-strides-requires c κs =
+    let rs = c .before .before .before .before .before .before .before .before .before .args .radices .now in
+    let p = partial-given rs (c .before .before .before .before .before .one-less .result) _ (sym (c .before .before .before .before .partial .ensures) ∙ ap answerSays (c .before .before .enum-told .given .1)) in
+    (subst (λ (n : ℕ). tooBig rs n ≡ false) (c .before .before .before .before .before .one-less .ensures) p, c .before .if2 .left)
 
--- src/lib.rt:78:1
 same-length : tie.Need-same-length
 same-length c = search needs
 
--- src/lib.rt:78:1
 returns-4 : tie.Need-returns-4
-returns-4 c = ?
+returns-4 c =
+    simp (le-ltb _ _ (c .before .before .before .before .before .before .before .before .before .if1 .left), sym (c .before .before .before .before .before .before .before .before .one-less .ensures), sym (c .before .before .before .before .before .before .before .partial .ensures), c .before .before .before .before .before .enum-told .given .1, le-ltb _ _ (c .before .before .before .before .if2 .left))
+    (ap gives (sym (strides-long (c .before .before .before .before .before .before .before .before .before .before .before .before .args .radices .now))), c .before .before .write-strides .ensures)
 
 pub strides-spec : {M : Type 1} → statement M
 strides-spec =
     tie.close
     (tie.spec
     returns
-    sub-upto
+    one-less-requires
     partial-requires
     enum-told
     enum-told-2
