@@ -2,6 +2,7 @@
 --   fits-small, fits-big    what `fits` says of a number below 2^64, and of the others
 --   fits-given, fits-refused    and the other way round
 --   stays-big    a number no smaller than one that is 2^64 or more is so too
+--   test-below    the test of a list says Below
 --   axes-below, axes-past    the axes of a set are below n exactly if nothing of the number is left above its n lowest digits
 --   Summing rs axes sum st left i    sum has the strides of the chosen axes below i, st is the stride at i, and left has the axes from i up
 --   summing-starts, summing-turn, summing-ends    before the first axis, one axis more, and after the last
@@ -60,7 +61,7 @@ below-test : (n : ℕ) (w : List ℕ) → Below n w → allBelow n w ≡ true
 below-test n [] b = refl
 below-test n (x ∷ xs) b = ap (λ (t : Bool). pick t (allBelow n xs) false) (lt-ltb x n (b .0)) ∙ below-test n xs (b .1)
 
-test-below : (n : ℕ) (w : List ℕ) → allBelow n w ≡ true → Below n w
+pub test-below : (n : ℕ) (w : List ℕ) → allBelow n w ≡ true → Below n w
 test-below n [] e = tt
 test-below n (x ∷ xs) e = go (ltb x n) refl e (test-below n xs)
   where

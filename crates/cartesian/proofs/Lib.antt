@@ -1,5 +1,6 @@
 pub mod Products
 pub mod Tuples
-pub mod Rules
 pub mod Writing
 pub mod Corners
+pub mod Rules
+pub mod Promises

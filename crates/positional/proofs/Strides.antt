@@ -5,7 +5,6 @@
 --   radix-pos    no radix of a product that is not 0 is 0
 --   values-long, values-at    the list of the values of f
 --   strides-long, strides-at    the list of the strides
---   weighed ds ss    the sum of the digits times the numbers at their positions
 --   number-is-weighed    a number is the sum of its digits times their strides
 use mathlib.Core.Path.{_≡_, refl, sym, ap, _∙_}
 use mathlib.Core.List.{List, [], _∷_, _++_}
@@ -14,7 +13,7 @@ use native.Mathlib.Nat.{not-suc-le-zero, le-of-suc-le-suc, zero-lt-suc, lt-of-mu
 use native.Mathlib.Omega.{arith}
 use lib.ListN.{length, getD, take}
 use lib.Seq.{take-all, take-suc}
-use Rattle.positional.specs.Positional.{product, stride, valuesOf, strides, numberOf}
+use Rattle.positional.specs.Positional.{product, stride, valuesOf, strides, numberOf, weighed}
 
 pub product-append : (rs ss : List ℕ) → product (rs ++ ss) ≡ product rs * product ss
 unfolding product
@@ -53,11 +52,6 @@ pub strides-at : (rs : List ℕ) (i : ℕ) → i < length rs → getD (strides r
 strides-at rs i h = values-at (stride rs) (length rs) i h
 
 -- ---- a number by the strides
-
-abbrev pub weighed : List ℕ → List ℕ → ℕ
-weighed [] ss = 0
-weighed (d ∷ ds) [] = 0
-weighed (d ∷ ds) (s ∷ ss) = d * s + weighed ds ss
 
 -- where the strides start at s
 weighed-from : (rs ds : List ℕ) (s : ℕ) (f : ℕ → ℕ) → ((i : ℕ) → f i ≡ s * stride rs i) → weighed ds (valuesOf f (length rs)) ≡ s * numberOf rs ds

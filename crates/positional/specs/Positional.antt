@@ -6,6 +6,7 @@
 --   cornerOf rs axes    the sum of the strides of the chosen positions
 --   Digits rs ds    as many digits as radices, each below its radix
 --   numberOf rs ds    the number that has the digits ds: d0 + r0 * (d1 + r1 * ..)
+--   weighed ds ss    the sum of the digits, each times the number at its position in ss
 --   digitsOf rs x    the digits of x: x % r0, and then those of x / r0
 --   without i w    the list w with position i taken out
 use mathlib.Core.List.{List, [], _∷_, _++_}
@@ -41,6 +42,11 @@ unfoldable pub numberOf : List ℕ → List ℕ → ℕ
 numberOf [] ds = 0
 numberOf (r ∷ rs) [] = 0
 numberOf (r ∷ rs) (d ∷ ds) = d + r * numberOf rs ds
+
+abbrev pub weighed : List ℕ → List ℕ → ℕ
+weighed [] ss = 0
+weighed (d ∷ ds) [] = 0
+weighed (d ∷ ds) (s ∷ ss) = d * s + weighed ds ss
 
 unfoldable pub digitsOf : List ℕ → ℕ → List ℕ
 digitsOf [] x = []
