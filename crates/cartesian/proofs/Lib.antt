@@ -4,3 +4,4 @@ pub mod Writing
 pub mod Corners
 pub mod Rules
 pub mod Promises
+pub mod Examples
