@@ -1,0 +1,151 @@
+-- Numbers that may be 2^64 or more, and the offset of a corner as a loop over the axes sums it. Assumes nothing.
+--   fits-small, fits-big    what `fits` says of a number below 2^64, and of the others
+--   fits-given, fits-refused    and the other way round
+--   stays-big    a number no smaller than one that is 2^64 or more is so too
+--   test-below    the test of a list says Below
+--   axes-below, axes-past    the axes of a set are below n exactly if nothing of the number is left above its n lowest digits
+--   Summing rs axes sum st left i    sum has the strides of the chosen axes below i, st is the stride at i, and left has the axes from i up
+--   summing-starts, summing-turn, summing-ends    before the first axis, one axis more, and after the last
+--   axis-chosen, axis-left-out    what an axis adds to the sum
+use mathlib.Core.Path.{_≡_, refl, sym, ap, subst, _∙_}
+use mathlib.Core.Bool.{Bool, true, false}
+use mathlib.Core.List.{List, [], _∷_}
+use Prim.Native.Nat.{ℕ, zero, suc, _+_, _*_, _/_, _%_, _^_, _<_, _≤_, zero-le}
+use native.Mathlib.Nat.{div-one, div-div-eq-div-mul, div-eq-of-lt, div-lt-iff-lt-mul, add-zero, one-mul, zero-mul, pow-suc}
+use native.Mathlib.Numerals.{add-one}
+use native.Mathlib.Omega.{arith}
+use borrow.Author.Tests.{ltb-true, leb-true, lt-ltb, le-leb, lt-leb}
+use lib.Dec.{leb, ltb}
+use lib.Pow.{pow-pos}
+use lib.ListN.{length, getD, drop}
+use lib.Seq.{drop-cons}
+use Rattle.words.specs.Pick.{pick}
+use Rattle.words.specs.Word.{Below}
+use Rattle.words.specs.Bits.{setBits}
+use Rattle.words.proofs.Bits.{bits-fit, below-of-bits, bits-of-set, set-bits-monotone}
+use Rattle.positional.specs.Positional.{product, stride, cornerOf}
+use Rattle.positional.proofs.Strides.{stride-next}
+use Rattle.positional.proofs.Corner.{corner-turn, corner-none}
+use Rattle.answers.specs.Says.{Says, gives, refuses}
+use Rattle.answers.proofs.Says.{gives-same, gives-no-refusal}
+use Rattle.cartesian.specs.Checks.{fits, allBelow}
+
+-- ---- numbers that may be 2^64 or more
+
+pub fits-small : (n : ℕ) → n < 2 ^ 64 → fits n ≡ gives n
+fits-small n h = simp (lt-leb (2 ^ 64) n h)
+
+pub fits-big : (n : ℕ) → 2 ^ 64 ≤ n → fits n ≡ refuses 9
+fits-big n h = simp (le-leb (2 ^ 64) n h)
+
+pub fits-given : (n x : ℕ) → gives x ≡ fits n → x ≡ n
+fits-given n x e = go (leb (2 ^ 64) n) refl e
+  where
+    go : (t : Bool) → leb (2 ^ 64) n ≡ t → gives x ≡ pick t (refuses 9) (gives n) → x ≡ n
+    go true b e = absurd (gives-no-refusal x 9 e)
+    go false b e = gives-same x n e
+
+pub fits-refused : (n d : ℕ) → refuses d ≡ fits n → 2 ^ 64 ≤ n
+fits-refused n d e = go (leb (2 ^ 64) n) refl e
+  where
+    go : (t : Bool) → leb (2 ^ 64) n ≡ t → refuses d ≡ pick t (refuses 9) (gives n) → 2 ^ 64 ≤ n
+    go true b e = leb-true (2 ^ 64) n b
+    go false b e = absurd (gives-no-refusal n d (sym e))
+
+pub stays-big : (n m d : ℕ) → refuses d ≡ fits n → n ≤ m → fits n ≡ fits m
+stays-big n m d e h = fits-big n (fits-refused n d e) ∙ sym (fits-big m (omega (arith, h, fits-refused n d e)))
+
+-- ---- the axes of a set
+
+below-test : (n : ℕ) (w : List ℕ) → Below n w → allBelow n w ≡ true
+below-test n [] b = refl
+below-test n (x ∷ xs) b = ap (λ (t : Bool). pick t (allBelow n xs) false) (lt-ltb x n (b .0)) ∙ below-test n xs (b .1)
+
+pub test-below : (n : ℕ) (w : List ℕ) → allBelow n w ≡ true → Below n w
+test-below n [] e = tt
+test-below n (x ∷ xs) e = go (ltb x n) refl e (test-below n xs)
+  where
+    go : (t : Bool) → ltb x n ≡ t → pick t (allBelow n xs) false ≡ true → (allBelow n xs ≡ true → Below n xs) → Below n (x ∷ xs)
+    go true b e more = (ltb-true x n b, more e)
+    go false b e more = absurd (let z : _≡_ {A = ℕ} 0 1 = cc in omega arith)
+
+quotient-none : (n a : ℕ) → a / 2 ^ n ≡ 0 → a < 2 ^ n
+quotient-none n a e = omega (arith, div-lt-iff-lt-mul {k = 2 ^ n} {x = a} {y = 1} (pow-pos n) .0 (omega arith))
+
+pub axes-below : (n a : ℕ) → a / 2 ^ n ≡ 0 → allBelow n (setBits a) ≡ true
+axes-below n a e = below-test n (setBits a) (below-of-bits n (setBits a) (omega (arith, bits-of-set a, quotient-none n a e)))
+
+pub axes-past : (n a : ℕ) → (a / 2 ^ n ≡ 0 → ⊥) → allBelow n (setBits a) ≡ false
+axes-past n a h = go (allBelow n (setBits a)) refl
+  where
+    go : (t : Bool) → allBelow n (setBits a) ≡ t → allBelow n (setBits a) ≡ false
+    go true e = absurd (h (div-eq-of-lt (omega (arith, bits-of-set a, bits-fit n (setBits a) (set-bits-monotone a) (test-below n (setBits a) e)))))
+    go false e = e
+
+-- ---- the loop over the axes
+
+pub record Summing (rs : List ℕ) (axes : ℕ) (sum st : Says ℕ) (left i : ℕ) : Type 0 where
+  pub within : i ≤ length rs
+  pub part : ℕ
+  pub summed : sum ≡ fits part
+  pub grown : st ≡ fits (stride rs i)
+  pub rest : left ≡ axes / 2 ^ i
+  pub whole : part + stride rs i * cornerOf (drop i rs) (setBits left) ≡ cornerOf rs (setBits axes)
+
+pub summing-starts : (rs : List ℕ) (axes : ℕ) → Summing rs axes (gives 0) (gives 1) axes 0
+unfolding product
+summing-starts rs axes =
+    record {
+      within = zero-le;
+      part = 0;
+      summed = sym (fits-small 0 (omega arith));
+      grown = sym (fits-small 1 (omega arith));
+      rest = sym (div-one axes);
+      whole = omega arith;
+    }
+
+pub summing-turn : (rs : List ℕ) (axes : ℕ) (sum st sum' st' : Says ℕ) (left i : ℕ) → Summing rs axes sum st left i → i < length rs
+    → ((m : ℕ) → sum ≡ fits m → sum' ≡ fits (m + left % 2 * stride rs i))
+    → ((m : ℕ) → st ≡ fits m → st' ≡ fits (m * getD rs i 0))
+    → Summing rs axes sum' st' (left / 2) (i + 1)
+summing-turn rs axes sum st sum' st' left i k h f g = subst (Summing rs axes sum' st' (left / 2)) (sym (add-one i)) next
+  where
+    turn : cornerOf (drop i rs) (setBits left) ≡ left % 2 + getD rs i 0 * cornerOf (drop (suc i) rs) (setBits (left / 2))
+    turn = ap (λ (l : List ℕ). cornerOf l (setBits left)) (drop-cons rs i 0 h) ∙ corner-turn (getD rs i 0) (drop (suc i) rs) left
+
+    next : Summing rs axes sum' st' (left / 2) (suc i)
+    next =
+        record {
+          within = h;
+          part = k .part + left % 2 * stride rs i;
+          summed = f (k .part) (k .summed);
+          grown = g (stride rs i) (k .grown) ∙ ap fits (sym (stride-next rs i h));
+          rest = ap (λ (x : ℕ). x / 2) (k .rest) ∙ div-div-eq-div-mul axes (2 ^ i) 2 ∙ ap (λ (x : ℕ). axes / x) (sym (pow-suc 2 i));
+          whole = omega (
+            arith,
+            k .whole,
+            ap (λ (x : ℕ). stride rs i * x) turn,
+            ap (λ (x : ℕ). x * cornerOf (drop (suc i) rs) (setBits (left / 2))) (stride-next rs i h),
+          );
+        }
+
+-- an axis that is chosen, and one that is not: a is what is left of the set, s the stride and m the sum so far
+pub axis-chosen : (a m s : ℕ) → a % 2 ≡ 1 → fits (m + s) ≡ fits (m + a % 2 * s)
+axis-chosen a m s e = ap (λ (n : ℕ). fits (m + n)) (sym (ap (λ (d : ℕ). d * s) e ∙ one-mul s))
+
+pub axis-left-out : (a m s : ℕ) → (a % 2 ≡ 1 → ⊥) → fits m ≡ fits (m + a % 2 * s)
+axis-left-out a m s h = go (a % 2) refl
+  where
+    go : (d : ℕ) → a % 2 ≡ d → fits m ≡ fits (m + d * s)
+    go zero e = ap fits (sym (ap (λ (n : ℕ). m + n) (zero-mul s) ∙ add-zero m))
+    go (suc zero) e = absurd (h e)
+    go (suc (suc d)) e = absurd (omega arith)
+
+pub summing-ends : (rs : List ℕ) (axes : ℕ) (sum st : Says ℕ) (left i : ℕ) → Summing rs axes sum st left i → length rs ≤ i → axes / 2 ^ length rs ≡ 0
+    → sum ≡ fits (cornerOf rs (setBits axes))
+summing-ends rs axes sum st left i k h e =
+    let p : i ≡ length rs = omega (arith, k .within) in
+    let z : left ≡ 0 = k .rest ∙ ap (λ (j : ℕ). axes / 2 ^ j) p ∙ e in
+    let o : cornerOf (drop i rs) (setBits left) ≡ 0 = ap (λ (a : ℕ). cornerOf (drop i rs) (setBits a)) z ∙ corner-none (drop i rs) in
+    let q : k .part ≡ cornerOf rs (setBits axes) = omega (arith, k .whole, ap (λ (x : ℕ). stride rs i * x) o) in
+    k .summed ∙ ap fits q

@@ -1,0 +1,102 @@
+-- Worked examples of what the calls on shapes say (01, "Numbers checked by hand", 10 and 12; the edges of the rule for 9, radices of 0, no axes). Assumes nothing.
+use mathlib.Core.Path.{_≡_, refl}
+use mathlib.Core.List.{List, [], _∷_}
+use Prim.Native.Nat.{ℕ, _^_}
+use lib.ListN.{replicate}
+use Rattle.words.specs.Bits.{onesFrom}
+use Rattle.positional.specs.Positional.{product, numberOf, digitsOf, cornerOf}
+use Rattle.answers.specs.Says.{refuses, gives}
+use Rattle.cartesian.specs.Rules.{countSays, stridesSays, linearizeSays, delinearizeSays, cornerSays}
+
+abbrev cube : List ℕ
+cube = 2 ∷ 3 ∷ 4 ∷ []
+
+cube-count : countSays cube ≡ gives 24
+unfolding product
+cube-count = refl
+
+cube-strides : stridesSays cube 3 ≡ gives (1 ∷ 2 ∷ 6 ∷ [])
+unfolding product
+cube-strides = refl
+
+cube-number : linearizeSays cube (1 ∷ 2 ∷ 3 ∷ []) ≡ gives 23
+unfolding product numberOf
+cube-number = refl
+
+cube-tuple : delinearizeSays cube 23 3 ≡ gives (1 ∷ 2 ∷ 3 ∷ [])
+unfolding product digitsOf
+cube-tuple = refl
+
+cube-corner : cornerSays cube 6 ≡ gives 8
+unfolding product cornerOf onesFrom
+cube-corner = refl
+
+corner-of-two : cornerSays (2 ^ 63 ∷ 1 ∷ 1 ∷ []) 6 ≡ refuses 9
+unfolding product cornerOf onesFrom
+corner-of-two = refl
+
+-- ---- the rule for 9
+
+wide-strides : stridesSays (2 ^ 63 ∷ 2 ∷ []) 2 ≡ gives (1 ∷ 2 ^ 63 ∷ [])
+unfolding product
+wide-strides = refl
+
+wide-count : countSays (2 ^ 63 ∷ 2 ∷ []) ≡ refuses 9
+unfolding product
+wide-count = refl
+
+-- ---- radices of 0
+
+abbrev high-zero : List ℕ
+high-zero = 2 ^ 40 ∷ 2 ^ 40 ∷ 0 ∷ []
+
+abbrev low-zero : List ℕ
+low-zero = 0 ∷ 2 ^ 40 ∷ 2 ^ 40 ∷ []
+
+no-tuple-of-zero : delinearizeSays (0 ∷ []) 0 1 ≡ refuses 3
+unfolding product
+no-tuple-of-zero = refl
+
+no-tuple-of-high-zero : delinearizeSays high-zero 0 3 ≡ refuses 9
+unfolding product
+no-tuple-of-high-zero = refl
+
+no-tuple-of-low-zero : delinearizeSays low-zero 0 3 ≡ refuses 3
+unfolding product
+no-tuple-of-low-zero = refl
+
+no-number-of-zeros : linearizeSays high-zero (0 ∷ 0 ∷ 0 ∷ []) ≡ refuses 7
+no-number-of-zeros = refl
+
+-- a stride past 2^64 that falls back to 0
+corner-past-zero : cornerSays (2 ^ 40 ∷ 2 ^ 40 ∷ 0 ∷ 1 ∷ []) 8 ≡ gives 0
+unfolding product cornerOf onesFrom
+corner-past-zero = refl
+
+corner-before-zero : cornerSays (2 ^ 40 ∷ 2 ^ 40 ∷ 0 ∷ 1 ∷ []) 4 ≡ refuses 9
+unfolding product cornerOf onesFrom
+corner-before-zero = refl
+
+corner-of-none : cornerSays (2 ^ 40 ∷ 2 ^ 40 ∷ 0 ∷ 1 ∷ []) 0 ≡ gives 0
+unfolding product cornerOf onesFrom
+corner-of-none = refl
+
+-- ---- no axes, and too many
+
+no-axes-count : countSays [] ≡ gives 1
+unfolding product
+no-axes-count = refl
+
+no-axes-strides : stridesSays [] 0 ≡ gives []
+unfolding product
+no-axes-strides = refl
+
+no-axes-tuple : delinearizeSays [] 0 0 ≡ gives []
+unfolding product digitsOf
+no-axes-tuple = refl
+
+more-digits : linearizeSays (replicate 16 1) (replicate 17 0) ≡ refuses 8
+more-digits = refl
+
+more-axes : linearizeSays (replicate 17 1) (replicate 17 0) ≡ refuses 1
+more-axes = refl

@@ -1,0 +1,7 @@
+pub mod Products
+pub mod Tuples
+pub mod Writing
+pub mod Corners
+pub mod Rules
+pub mod Promises
+pub mod Examples

@@ -1,0 +1,75 @@
+-- The promises of the calls on shapes, as theorems about what they say. Assumes nothing.
+--   count-is-how-many-tuples    the count is how many digit tuples the shape has
+--   linearize-is-how-many-earlier    the number of a tuple is how many tuples of the shape stand earlier in colex order
+--   linearize-keeps-the-order    of two tuples, the earlier has the smaller number
+--   linearize-answers, delinearize-answers    where the shape has a count, each tuple has a number below it, and each number below it a tuple
+--   delinearize-of-linearize, linearize-of-delinearize    the two are inverse where they answer
+--   linearize-by-strides    the number of a tuple is the sum of its digits times their strides
+--   corner-is-a-number    the offset of a corner is the number whose digits are 1 at the chosen axes and 0 at the others
+use mathlib.Core.Path.{_≡_, refl, sym, ap, subst, _∙_}
+use mathlib.Core.Logic.{_↔_}
+use mathlib.Core.List.{List}
+use Prim.Native.Nat.{ℕ, _<_, _≤_}
+use native.Mathlib.Omega.{arith}
+use lib.ListN.{length, replicate}
+use Rattle.words.specs.Colex.{ColexLt}
+use Rattle.words.specs.HowMany.{HowMany}
+use Rattle.words.proofs.Colex.{to-colex, from-colex}
+use Rattle.positional.specs.Positional.{product, strides, Digits, numberOf, weighed, digitsOf}
+use Rattle.positional.proofs.Digits.{number-below, digits-good, number-of-digits, digits-of-number}
+use Rattle.positional.proofs.Counted.{number-rises, before-of-number, product-is-how-many-digits, number-is-how-many-earlier}
+use Rattle.positional.proofs.Strides.{number-is-weighed}
+use Rattle.positional.proofs.Corner.{corner-is-number}
+use Rattle.answers.specs.Says.{gives}
+use Rattle.cartesian.specs.Rules.{countSays, linearizeSays, delinearizeSays, cornerSays}
+use Rattle.cartesian.proofs.Rules.{Counted, count-given, Linear, linearize-given, linearize-gives, Delinear, delinearize-given, delinearize-gives, corner-given}
+
+-- ---- what is counted
+
+pub count-is-how-many-tuples : (rs : List ℕ) (c : ℕ) → countSays rs ≡ gives c → HowMany (Digits rs) c
+count-is-how-many-tuples rs c e = subst (HowMany (Digits rs)) (sym (count-given rs c e .is)) (product-is-how-many-digits rs)
+
+pub linearize-is-how-many-earlier : (rs ds : List ℕ) (x : ℕ) → linearizeSays rs ds ≡ gives x → HowMany (λ es. Digits rs es × ColexLt es ds) x
+linearize-is-how-many-earlier rs ds x e =
+    let l : Linear rs ds x = linearize-given rs ds x e in
+    subst (HowMany (λ es. Digits rs es × ColexLt es ds)) (sym (l .is)) (number-is-how-many-earlier rs ds (l .good))
+
+pub linearize-keeps-the-order : (rs ds es : List ℕ) (x y : ℕ) → linearizeSays rs ds ≡ gives x → linearizeSays rs es ≡ gives y → ColexLt ds es ↔ (x < y)
+linearize-keeps-the-order rs ds es x y e f =
+    let l : Linear rs ds x = linearize-given rs ds x e in
+    let m : Linear rs es y = linearize-given rs es y f in (
+      λ c. omega (arith, l .is, m .is, number-rises rs ds es (l .good) (m .good) (from-colex ds es c)),
+      λ h. to-colex ds es (before-of-number rs ds es (l .good) (m .good) (omega (arith, l .is, m .is))),
+    )
+
+-- ---- the two ways
+
+pub linearize-answers : (rs ds : List ℕ) (c : ℕ) → countSays rs ≡ gives c → Digits rs ds → (x : ℕ) × (linearizeSays rs ds ≡ gives x) × (x < c)
+linearize-answers rs ds c e g =
+    (numberOf rs ds, linearize-gives rs ds c e g, omega (arith, number-below rs ds g, count-given rs c e .is))
+
+pub delinearize-answers : (rs : List ℕ) (x room c : ℕ) → countSays rs ≡ gives c → x < c → length rs ≤ room
+    → (ds : List ℕ) × (delinearizeSays rs x room ≡ gives ds) × Digits rs ds
+delinearize-answers rs x room c e h l =
+    (digitsOf rs x, delinearize-gives rs x room c e h l, digits-good rs x (omega (arith, count-given rs c e .is)))
+
+pub delinearize-of-linearize : (rs ds : List ℕ) (x room : ℕ) → linearizeSays rs ds ≡ gives x → length rs ≤ room → delinearizeSays rs x room ≡ gives ds
+delinearize-of-linearize rs ds x room e h =
+    let l : Linear rs ds x = linearize-given rs ds x e in
+    delinearize-gives rs x room (l .count) (l .counted) (omega (arith, l .is, number-below rs ds (l .good), count-given rs (l .count) (l .counted) .is)) h
+    ∙ ap gives (ap (digitsOf rs) (l .is) ∙ digits-of-number rs ds (l .good))
+
+pub linearize-of-delinearize : (rs ds : List ℕ) (x room : ℕ) → delinearizeSays rs x room ≡ gives ds → linearizeSays rs ds ≡ gives x
+linearize-of-delinearize rs ds x room e =
+    let d : Delinear rs x room ds = delinearize-given rs x room ds e in
+    ap (linearizeSays rs) (d .is)
+    ∙ linearize-gives rs (digitsOf rs x) (d .count) (d .counted) (digits-good rs x (d .below))
+    ∙ ap gives (number-of-digits rs x (d .below))
+
+-- ---- strides and corners
+
+pub linearize-by-strides : (rs ds : List ℕ) (x : ℕ) → linearizeSays rs ds ≡ gives x → x ≡ weighed ds (strides rs)
+linearize-by-strides rs ds x e = linearize-given rs ds x e .is ∙ number-is-weighed rs ds
+
+pub corner-is-a-number : (rs : List ℕ) (axes x : ℕ) → cornerSays rs axes ≡ gives x → x ≡ numberOf rs (digitsOf (replicate (length rs) 2) axes)
+corner-is-a-number rs axes x e = corner-given rs axes x e .1 ∙ corner-is-number rs axes (corner-given rs axes x e .0)

@@ -1,0 +1,121 @@
+-- What an answer of a call tells of its arguments, and the other way round. Assumes nothing.
+--   Counted rs c    the shape has at most 16 axes, and c, its count, is below 2^64
+--   count-given    what `countSays` gives
+--   Linear rs ds x    the shape has a count, the digits are good, and x is their number
+--   linearize-given, linearize-gives    what `linearizeSays` gives, and when
+--   Delinear rs x room ds    x is below the count of the shape, there is room, and ds are the digits of x
+--   delinearize-given, delinearize-gives    what `delinearizeSays` gives, and when
+--   corner-given    what `cornerSays` gives
+use mathlib.Core.Path.{_≡_, sym, ap, _∙_}
+use mathlib.Core.Bool.{Bool, true, false, not}
+use mathlib.Core.List.{List}
+use Prim.Native.Nat.{ℕ, _^_, _<_, _≤_}
+use native.Mathlib.Omega.{arith}
+use borrow.Author.Tests.{ltb-false, le-ltb, leb-false, lt-leb, eqb-true, eq-eqb, not-false}
+use lib.Dec.{leb, ltb, eqb}
+use lib.ListN.{length}
+use Rattle.words.specs.Bits.{setBits}
+use Rattle.words.proofs.Bits.{bits-fit, bits-of-set, set-bits-monotone}
+use Rattle.positional.specs.Positional.{product, Digits, numberOf, digitsOf, cornerOf}
+use Rattle.positional.proofs.Digits.{digits-long}
+use Rattle.answers.specs.Says.{Says, gives, refusedIf, andThen}
+use Rattle.answers.proofs.Says.{gives-same, passed, then-gave}
+use Rattle.cartesian.specs.Checks.{fits, within, allBelow}
+use Rattle.cartesian.specs.Rules.{wide, sizeSays, countSays, linearizeSays, delinearizeSays, cornerSays}
+use Rattle.cartesian.proofs.Products.{size-given}
+use Rattle.cartesian.proofs.Tuples.{within-is-digits}
+use Rattle.cartesian.proofs.Corners.{fits-given, test-below}
+
+-- ---- the count
+
+pub record Counted (rs : List ℕ) (c : ℕ) : Type 0 where
+  pub axes : length rs ≤ 16
+  pub is : c ≡ product rs
+  pub fits : product rs < 2 ^ 64
+
+pub count-given : (rs : List ℕ) (c : ℕ) → countSays rs ≡ gives c → Counted rs c
+count-given rs c e = go (passed (wide rs) 1 (sizeSays rs) c e)
+  where
+    go : (wide rs ≡ false) × (sizeSays rs ≡ gives c) → Counted rs c
+    go p = record { axes = ltb-false 16 (length rs) (p .0); is = size-given rs c (p .1) .0; fits = size-given rs c (p .1) .1 }
+
+-- ---- the number of a tuple
+
+pub record Linear (rs ds : List ℕ) (x : ℕ) : Type 0 where
+  pub count : ℕ
+  pub counted : countSays rs ≡ gives count
+  pub good : Digits rs ds
+  pub is : x ≡ numberOf rs ds
+
+pub linearize-given : (rs ds : List ℕ) (x : ℕ) → linearizeSays rs ds ≡ gives x → Linear rs ds x
+linearize-given rs ds x e =
+    wide-passed (passed (wide rs) 1 (refusedIf (not (eqb (length ds) (length rs))) 8 (refusedIf (not (within rs ds)) 7 (andThen (sizeSays rs) (λ c. gives (numberOf rs ds))))) x e)
+  where
+    sized : wide rs ≡ false → Digits rs ds → (c : ℕ) × (sizeSays rs ≡ gives c) × (gives (numberOf rs ds) ≡ gives x) → Linear rs ds x
+    sized w g t = record { count = t .0; counted = simp (w, t .1); good = g; is = sym (gives-same (numberOf rs ds) x (t .2)) }
+
+    below-passed : wide rs ≡ false → length ds ≡ length rs → (not (within rs ds) ≡ false) × (andThen (sizeSays rs) (λ c. gives (numberOf rs ds)) ≡ gives x) → Linear rs ds x
+    below-passed w l p = sized w (within-is-digits rs ds l .0 (not-false (within rs ds) (p .0))) (then-gave (sizeSays rs) (λ c. gives (numberOf rs ds)) x (p .1))
+
+    long-passed : wide rs ≡ false → (not (eqb (length ds) (length rs)) ≡ false) × (refusedIf (not (within rs ds)) 7 (andThen (sizeSays rs) (λ c. gives (numberOf rs ds))) ≡ gives x)
+        → Linear rs ds x
+    long-passed w p =
+        below-passed w (eqb-true (length ds) (length rs) (not-false (eqb (length ds) (length rs)) (p .0))) (passed (not (within rs ds)) 7 (andThen (sizeSays rs) (λ c. gives (numberOf rs ds))) x (p .1))
+
+    wide-passed : (wide rs ≡ false) × (refusedIf (not (eqb (length ds) (length rs))) 8 (refusedIf (not (within rs ds)) 7 (andThen (sizeSays rs) (λ c. gives (numberOf rs ds)))) ≡ gives x)
+        → Linear rs ds x
+    wide-passed p = long-passed (p .0) (passed (not (eqb (length ds) (length rs))) 8 (refusedIf (not (within rs ds)) 7 (andThen (sizeSays rs) (λ c. gives (numberOf rs ds)))) x (p .1))
+
+pub linearize-gives : (rs ds : List ℕ) (c : ℕ) → countSays rs ≡ gives c → Digits rs ds → linearizeSays rs ds ≡ gives (numberOf rs ds)
+linearize-gives rs ds c e g = go (passed (wide rs) 1 (sizeSays rs) c e)
+  where
+    go : (wide rs ≡ false) × (sizeSays rs ≡ gives c) → linearizeSays rs ds ≡ gives (numberOf rs ds)
+    go p =
+        let l : length ds ≡ length rs = digits-long rs ds g in
+        simp (p .0, eq-eqb (length ds) (length rs) l, within-is-digits rs ds l .1 g, p .1)
+
+-- ---- the tuple of a number
+
+pub record Delinear (rs : List ℕ) (x room : ℕ) (ds : List ℕ) : Type 0 where
+  pub count : ℕ
+  pub counted : countSays rs ≡ gives count
+  pub below : x < product rs
+  pub fits : length rs ≤ room
+  pub is : ds ≡ digitsOf rs x
+
+pub delinearize-given : (rs : List ℕ) (x room : ℕ) (ds : List ℕ) → delinearizeSays rs x room ≡ gives ds → Delinear rs x room ds
+delinearize-given rs x room ds e = go (then-gave (countSays rs) (λ c. refusedIf (leb c x) 3 (refusedIf (ltb room (length rs)) 8 (gives (digitsOf rs x)))) ds e)
+  where
+    go : (c : ℕ) × (countSays rs ≡ gives c) × (refusedIf (leb c x) 3 (refusedIf (ltb room (length rs)) 8 (gives (digitsOf rs x))) ≡ gives ds) → Delinear rs x room ds
+    go t = on (passed (leb (t .0) x) 3 (refusedIf (ltb room (length rs)) 8 (gives (digitsOf rs x))) ds (t .2))
+      where
+        on : (leb (t .0) x ≡ false) × (refusedIf (ltb room (length rs)) 8 (gives (digitsOf rs x)) ≡ gives ds) → Delinear rs x room ds
+        on p = last (passed (ltb room (length rs)) 8 (gives (digitsOf rs x)) ds (p .1))
+          where
+            last : (ltb room (length rs) ≡ false) × (gives (digitsOf rs x) ≡ gives ds) → Delinear rs x room ds
+            last q =
+                record {
+                  count = t .0;
+                  counted = t .1;
+                  below = omega (arith, leb-false (t .0) x (p .0), count-given rs (t .0) (t .1) .is);
+                  fits = ltb-false room (length rs) (q .0);
+                  is = sym (gives-same (digitsOf rs x) ds (q .1));
+                }
+
+pub delinearize-gives : (rs : List ℕ) (x room c : ℕ) → countSays rs ≡ gives c → x < c → length rs ≤ room → delinearizeSays rs x room ≡ gives (digitsOf rs x)
+delinearize-gives rs x room c e h l = simp (e, lt-leb c x h, le-ltb room (length rs) l)
+
+-- ---- the offset of a corner
+
+pub corner-given : (rs : List ℕ) (axes x : ℕ) → cornerSays rs axes ≡ gives x → (axes < 2 ^ length rs) × (x ≡ cornerOf rs (setBits axes))
+corner-given rs axes x e = go (passed (wide rs) 1 (refusedIf (not (allBelow (length rs) (setBits axes))) 7 (fits (cornerOf rs (setBits axes)))) x e)
+  where
+    go : (wide rs ≡ false) × (refusedIf (not (allBelow (length rs) (setBits axes))) 7 (fits (cornerOf rs (setBits axes))) ≡ gives x)
+        → (axes < 2 ^ length rs) × (x ≡ cornerOf rs (setBits axes))
+    go p = on (passed (not (allBelow (length rs) (setBits axes))) 7 (fits (cornerOf rs (setBits axes))) x (p .1))
+      where
+        on : (not (allBelow (length rs) (setBits axes)) ≡ false) × (fits (cornerOf rs (setBits axes)) ≡ gives x) → (axes < 2 ^ length rs) × (x ≡ cornerOf rs (setBits axes))
+        on q = (
+          omega (arith, bits-of-set axes, bits-fit (length rs) (setBits axes) (set-bits-monotone axes) (test-below (length rs) (setBits axes) (not-false (allBelow (length rs) (setBits axes)) (q .0)))),
+          fits-given (cornerOf rs (setBits axes)) x (sym (q .1)),
+        )
