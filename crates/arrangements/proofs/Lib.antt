@@ -1,0 +1,5 @@
+pub mod Places
+pub mod Smaller
+pub mod Rank
+pub mod Unrank
+pub mod Counted

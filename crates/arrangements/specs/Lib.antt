@@ -1,0 +1,2 @@
+pub mod Permutation
+pub mod Rank
