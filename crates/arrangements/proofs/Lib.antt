@@ -3,3 +3,5 @@ pub mod Smaller
 pub mod Rank
 pub mod Unrank
 pub mod Counted
+pub mod Group
+pub mod Sign

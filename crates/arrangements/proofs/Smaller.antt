@@ -74,28 +74,46 @@ smaller-split x (suc i) (y ∷ ys) l low high =
 
 -- ---- of a list without repeats
 
+-- what the entries smaller than d weigh together, if y weighs g y
+unfoldable pub weigh : (ℕ → ℕ) → ℕ → List ℕ → ℕ
+weigh g d [] = 0
+weigh g d (y ∷ ys) = pick (ltb y d) (g y) 0 + weigh g d ys
+
 -- d itself is the one entry that is smaller than d + 1 and not smaller than d
-one-more : (d : ℕ) (w : List ℕ) → Distinct w → smallerIn (suc d) w ≡ one-if (standsIn d w) + smallerIn d w
-unfolding smallerIn
-one-more d [] a = refl
-one-more d (y ∷ ys) a = go (eqb d y) refl (standsIn d ys) refl (ltb y d) refl (one-more d ys (a .1))
+pub weigh-next : (g : ℕ → ℕ) (d : ℕ) (w : List ℕ) → Distinct w → weigh g (suc d) w ≡ pick (standsIn d w) (g d) 0 + weigh g d w
+unfolding weigh
+weigh-next g d [] a = refl
+weigh-next g d (y ∷ ys) a = go (eqb d y) refl (standsIn d ys) refl (ltb y d) refl (weigh-next g d ys (a .1))
   where
-    go : (t : Bool) → eqb d y ≡ t → (s : Bool) → standsIn d ys ≡ s → (r : Bool) → ltb y d ≡ r → smallerIn (suc d) ys ≡ one-if (standsIn d ys) + smallerIn d ys
-        → one-if (ltb y (suc d)) + smallerIn (suc d) ys ≡ one-if (pick t true (standsIn d ys)) + (one-if (ltb y d) + smallerIn d ys)
+    if : ℕ → Bool → ℕ
+    if n t = pick t n 0
+
+    go : (t : Bool) → eqb d y ≡ t → (s : Bool) → standsIn d ys ≡ s → (r : Bool) → ltb y d ≡ r → weigh g (suc d) ys ≡ pick (standsIn d ys) (g d) 0 + weigh g d ys
+        → pick (ltb y (suc d)) (g y) 0 + weigh g (suc d) ys ≡ pick (pick t true (standsIn d ys)) (g d) 0 + (pick (ltb y d) (g y) 0 + weigh g d ys)
     go true p true q r k ih = absurd (a .0 (subst (λ (v : ℕ). In v ys) (eqb-true d y p) (stands d ys q)))
     go true p false q r k ih =
-        omega (arith, ih, ap one-if q, ap one-if (lt-ltb y (suc d) (omega (arith, eqb-true d y p))), ap one-if (le-ltb y d (omega (arith, eqb-true d y p))))
-    go false p s q true k ih = omega (arith, ih, ap one-if k, ap one-if (lt-ltb y (suc d) (omega (arith, ltb-true y d k))))
+        let e : d ≡ y = eqb-true d y p in
+        omega (arith, ih, ap g e, ap (if (g d)) q, ap (if (g y)) (lt-ltb y (suc d) (omega arith)), ap (if (g y)) (le-ltb y d (omega arith)))
+    go false p s q true k ih = omega (arith, ih, ap (if (g y)) k, ap (if (g y)) (lt-ltb y (suc d) (omega (arith, ltb-true y d k))))
     go false p s q false k ih =
         let apart : d ≡ y → ⊥ = eqb-false d y p in
-        omega (arith, ih, ap one-if k, ap one-if (le-ltb y (suc d) (omega (arith, ltb-false y d k))))
+        omega (arith, ih, ap (if (g y)) k, ap (if (g y)) (le-ltb y (suc d) (omega (arith, ltb-false y d k))))
+
+-- to count them, each weighs 1
+smaller-weigh-one : (d : ℕ) (w : List ℕ) → smallerIn d w ≡ weigh (λ y. 1) d w
+unfolding smallerIn weigh
+smaller-weigh-one d [] = refl
+smaller-weigh-one d (y ∷ ys) = ap (λ (n : ℕ). one-if (ltb y d) + n) (smaller-weigh-one d ys)
+
+smaller-next : (d : ℕ) (w : List ℕ) → Distinct w → smallerIn (suc d) w ≡ one-if (standsIn d w) + smallerIn d w
+smaller-next d w a = smaller-weigh-one (suc d) w ∙ weigh-next (λ y. 1) d w a ∙ ap (λ (n : ℕ). one-if (standsIn d w) + n) (sym (smaller-weigh-one d w))
 
 -- ---- of a permutation
 
 smaller-rises : (w : List ℕ) → Distinct w → (d k : ℕ) → smallerIn (d + k) w ≤ smallerIn d w + k
 smaller-rises w a d zero = omega (arith, ap (λ (x : ℕ). smallerIn x w) (add-zero d))
 smaller-rises w a d (suc k) =
-    omega (arith, smaller-rises w a d k, ap (λ (x : ℕ). smallerIn x w) (add-suc d k), one-more (d + k) w a, at-most-one (standsIn (d + k) w))
+    omega (arith, smaller-rises w a d k, ap (λ (x : ℕ). smallerIn x w) (add-suc d k), smaller-next (d + k) w a, at-most-one (standsIn (d + k) w))
   where
     at-most-one : (t : Bool) → one-if t ≤ 1
     at-most-one true = omega arith
@@ -122,4 +140,4 @@ permutation-has n p h d l = go (standsIn d p) refl
     go true e = stands d p e
     go false e =
         absurd
-        (omega (arith, smaller-in-permutation n p h d (omega arith), smaller-in-permutation n p h (suc d) l, one-more d p (h .distinct), ap one-if e))
+        (omega (arith, smaller-in-permutation n p h d (omega arith), smaller-in-permutation n p h (suc d) l, smaller-next d p (h .distinct), ap one-if e))
