@@ -4,4 +4,7 @@ pub mod Rank
 pub mod Unrank
 pub mod Counted
 pub mod Group
+pub mod Ends
+pub mod Next
 pub mod Sign
+pub mod Examples

@@ -4,12 +4,12 @@
 --   distinct-at    no two places of a list hold the same
 --   ByPlaces n p    a permutation by its places; by-places, from-places    it is the permutation of the definition
 --   stands, stands-not    the test whether a number stands in a list
---   is-permutation, permutation-is    the test passes exactly at permutations
-use mathlib.Core.Path.{_≡_, refl, sym, ap, subst, _∙_}
-use mathlib.Core.Logic.{_⊎_, inl, inr, _↔_}
+--   test-passes, test-fails    the test for a permutation passes exactly at permutations
+use mathlib.Core.Path.{_≡_, refl, sym, ap, subst}
+use mathlib.Core.Logic.{inl, inr, _↔_}
 use mathlib.Core.Bool.{Bool, true, false, true≢false}
 use mathlib.Core.List.{List, [], _∷_, map}
-use Prim.Native.Nat.{ℕ, zero, suc, _≤_, _<_, zero-le, suc-le-suc}
+use Prim.Native.Nat.{ℕ, zero, suc, _<_, suc-le-suc}
 use native.Mathlib.Nat.{not-suc-le-zero, le-of-suc-le-suc, zero-lt-suc, suc-inj, suc-ne-zero}
 use native.Mathlib.Omega.{arith}
 use borrow.Author.Tests.{eqb-true, eqb-false, leb-true, leb-false}
@@ -98,7 +98,7 @@ stands-not x (y ∷ ys) e h = go (eqb x y) refl e (stands-not x ys) h
     go false q r ih (inl e) = eqb-false x y q e
     go false q r ih (inr i) = ih r i
 
-pub fits : (n : ℕ) (w : List ℕ) → allFit n w ≡ true → Below n w × Distinct w
+fits : (n : ℕ) (w : List ℕ) → allFit n w ≡ true → Below n w × Distinct w
 fits n [] e = (tt, tt)
 fits n (x ∷ xs) e = go (leb n x) refl (standsIn x xs) refl e (fits n xs)
   where
@@ -108,7 +108,7 @@ fits n (x ∷ xs) e = go (leb n x) refl (standsIn x xs) refl e (fits n xs)
     go false a true b e ih = absurd (true≢false (sym e))
     go false a false b e ih = ((leb-false n x a, ih e .0), (stands-not x xs b, ih e .1))
 
-pub fits-not : (n : ℕ) (w : List ℕ) → allFit n w ≡ false → Below n w → Distinct w → ⊥
+fits-not : (n : ℕ) (w : List ℕ) → allFit n w ≡ false → Below n w → Distinct w → ⊥
 fits-not n [] e b d = true≢false e
 fits-not n (x ∷ xs) e b d = go (leb n x) refl (standsIn x xs) refl e (fits-not n xs)
   where

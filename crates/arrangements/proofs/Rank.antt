@@ -1,7 +1,14 @@
 -- The rank of a permutation: it is below the factorial, and grows with the order. Assumes nothing.
-use mathlib.Core.Path.{_≡_, refl, sym, ap, ap₂, subst, _∙_}
+--   factorial-positive, factorial-next    n! is not 0, and (n + 1)! is n times n! and n! more
+--   rank-below-factorial    k places weigh less than k!
+--   Rises, falling-rank, rising-rank    places whose entries fall weigh nothing, and places whose entries rise weigh k! - 1
+--   rank-snoc    what one more entry at the end adds
+--   rank-map    a map that keeps the order keeps the rank
+--   same-left, same-weight-above    where two permutations agree from place k up, these places weigh the same
+--   rank-rises    of two permutations of one length, the earlier has the smaller rank
+use mathlib.Core.Path.{_≡_, refl, sym, ap, ap₂, _∙_}
 use mathlib.Core.List.{List, [], _∷_, _++_, map}
-use Prim.Native.Nat.{ℕ, zero, suc, _+_, _*_, _-_, _≤_, _<_, zero-le, suc-le-suc}
+use Prim.Native.Nat.{ℕ, zero, suc, _+_, _*_, _-_, _≤_, _<_, zero-le}
 use native.Mathlib.Nat.{mul-le-mul-right, mul-pos, zero-lt-suc, add-zero, add-suc, add-sub-of-le}
 use native.Mathlib.Numerals.{add-one}
 use native.Mathlib.Omega.{arith}
@@ -39,7 +46,11 @@ rank-below-factorial p zero = factorial-positive 0
 rank-below-factorial p (suc k) =
     omega (arith, rank-below-factorial p k, factorial-next k, mul-le-mul-right (factorial k) (digit-at-most p k))
 
--- the places below k weigh nothing if they fall, and as much as they can if they rise
+-- the entries below place k rise
+abbrev pub Rises : List ℕ → ℕ → Type 0
+Rises p k = (i j : ℕ) → i < j → j < k → getD p i 0 < getD p j 0
+
+-- the places below k weigh nothing if their entries fall, and as much as they can if they rise
 pub falling-rank : (p : List ℕ) (k : ℕ) → k ≤ length p → ((i j : ℕ) → i < j → j < k → getD p j 0 < getD p i 0) → rankBelow p k ≡ 0
 unfolding rankBelow
 falling-rank p zero l h = refl
@@ -50,7 +61,7 @@ falling-rank p (suc k) l h = omega (arith, falling-rank p k (omega arith) (λ i 
         smaller-split (getD p k 0) 0 (take k p) zero-le (λ j b. omega arith)
         (λ j a b. let c : j < k = omega (arith, length-take k p) in rw (getD-take k p j 0) (omega (arith, h j k c (omega arith))))
 
-pub rising-rank : (p : List ℕ) (k : ℕ) → k ≤ length p → ((i j : ℕ) → i < j → j < k → getD p i 0 < getD p j 0) → suc (rankBelow p k) ≡ factorial k
+pub rising-rank : (p : List ℕ) (k : ℕ) → k ≤ length p → Rises p k → suc (rankBelow p k) ≡ factorial k
 unfolding rankBelow
 rising-rank p zero l h = unfold factorial in refl
 rising-rank p (suc k) l h =
@@ -96,7 +107,7 @@ rank-map f h w = ap (rankBelow (map f w)) (length-map w f) ∙ map-rank f h w (l
 
 -- ---- two permutations that differ below k alone
 
-module _ (n : ℕ) (u v : List ℕ) (p : Permutation n u) (q : Permutation n v) (k : ℕ) (same : (j : ℕ) → k ≤ j → getD u j 0 ≡ getD v j 0) where
+module _ (n : ℕ) (u v : List ℕ) (p : Permutation n u) (q : Permutation n v) (k : ℕ) (same : (j : ℕ) → k ≤ j → j < n → getD u j 0 ≡ getD v j 0) where
   -- they have the same entries there
   pub same-left : (m x : ℕ) → k ≤ m → x ≤ n → smallerIn x (take m u) ≡ smallerIn x (take m v)
   same-left m x l b =
@@ -115,7 +126,7 @@ module _ (n : ℕ) (u v : List ℕ) (p : Permutation n u) (q : Permutation n v) 
       rest : drop m u ≡ drop m v
       rest =
           ext-getD 0 (drop m u) (drop m v) (length-drop m u ∙ ap (λ (a : ℕ). a - m) (p .long ∙ sym (q .long)) ∙ sym (length-drop m v))
-          (λ i h. getD-drop m u i 0 ∙ same (m + i) (omega arith) ∙ sym (getD-drop m v i 0))
+          (λ i h. getD-drop m u i 0 ∙ same (m + i) (omega arith) (omega (arith, length-drop m u, p .long)) ∙ sym (getD-drop m v i 0))
 
   -- so the places from k up weigh the same
   pub same-weight-above : (i : ℕ) → k + i ≤ n → rankBelow u (k + i) + rankBelow v k ≡ rankBelow v (k + i) + rankBelow u k
@@ -133,7 +144,7 @@ module _ (n : ℕ) (u v : List ℕ) (p : Permutation n u) (q : Permutation n v) 
       digits : digit u (k + i) ≡ digit v (k + i)
       digits =
           same-left (k + i) (getD u (k + i) 0) (omega arith) (omega (arith, by-places n u p .below (k + i) (omega arith)))
-          ∙ ap (λ (x : ℕ). smallerIn x (take (k + i) v)) (same (k + i) (omega arith))
+          ∙ ap (λ (x : ℕ). smallerIn x (take (k + i) v)) (same (k + i) (omega arith) (omega arith))
 
 -- ---- the order
 
@@ -146,7 +157,7 @@ unfolding rankBelow
 rank-rises n u v p q c =
     omega (
       arith,
-      same-weight-above n u v p q (suc k) (c .above) (n - suc k) (omega arith),
+      same-weight-above n u v p q (suc k) (λ j h l. c .above j h) (n - suc k) (omega arith),
       ap (rankBelow u) (p .long ∙ sym (add-sub-of-le l)),
       ap (rankBelow v) (q .long ∙ sym (add-sub-of-le l)),
       rank-below-factorial u k,
@@ -164,7 +175,7 @@ rank-rises n u v p q c =
         omega (
           arith,
           digit-with-itself v k (getD v k 0) (omega (arith, q .long)) refl,
-          same-left n u v p q (suc k) (c .above) (suc k) (getD v k 0) (omega arith) (omega (arith, by-places n v q .below k l)),
+          same-left n u v p q (suc k) (λ j h l. c .above j h) (suc k) (getD v k 0) (omega arith) (omega (arith, by-places n v q .below k l)),
           smaller-one-more (getD v k 0) u k (c .within),
           ap one-if (lt-ltb (getD u k 0) (getD v k 0) (c .smaller)),
           smaller-monotone (getD u k 0) (getD v k 0) (omega (arith, c .smaller)) (take k u),

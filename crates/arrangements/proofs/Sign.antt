@@ -4,7 +4,7 @@
 -- The way: where f is applied to a list, a pair changes between an inversion and none exactly if f turns its order. How many pairs f turns does
 -- not depend on how the list is arranged, so it can be counted on the identity.
 use mathlib.Core.Path.{_≡_, refl, sym, ap, ap₂, subst, _∙_}
-use mathlib.Core.Logic.{_⊎_, inl, inr}
+use mathlib.Core.Logic.{inl, inr}
 use mathlib.Core.Bool.{Bool, true, false}
 use mathlib.Core.List.{List, [], _∷_, map}
 use Prim.Native.Nat.{ℕ, zero, suc, _+_, _%_, _≤_, _<_, zero-le}
@@ -12,7 +12,7 @@ use native.Mathlib.Nat.{le-refl}
 use native.Mathlib.Omega.{arith}
 use borrow.Author.Tests.{lt-ltb, le-ltb, ltb-true, ltb-false}
 use lib.Dec.{ltb}
-use lib.ListN.{length, getD}
+use lib.ListN.{getD}
 use Rattle.words.specs.Pick.{pick}
 use Rattle.words.specs.Word.{Below}
 use Rattle.words.specs.HowMany.{In, Distinct}

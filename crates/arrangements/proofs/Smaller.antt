@@ -1,4 +1,11 @@
--- How many entries of a list are smaller than a number, and how many of a permutation. Assumes nothing.
+-- How many entries of a list are smaller than a number. Assumes nothing.
+--   smaller-append, smaller-one-more    in a list of two parts, and with one place more
+--   smaller-at-most    not more than there are entries
+--   smaller-monotone, smaller-map    for a greater number, and under a map that keeps the order
+--   smaller-split    where the first i are smaller and the others are not, there are i
+--   weigh, weigh-next    what the smaller entries weigh, and with the next number: no two entries are the same
+--   smaller-in-permutation    d entries of a permutation are smaller than d
+--   permutation-has    a permutation of n entries has each number below n
 use mathlib.Core.Path.{_≡_, refl, sym, ap, ap₂, subst, _∙_}
 use mathlib.Core.Bool.{Bool, true, false}
 use mathlib.Core.List.{List, [], _∷_, _++_, map}
@@ -10,7 +17,6 @@ use lib.Dec.{ltb, eqb}
 use lib.ListN.{length, getD, take}
 use lib.Seq.{take-suc}
 use Rattle.words.specs.Pick.{pick}
-use Rattle.words.specs.Word.{Below}
 use Rattle.words.specs.HowMany.{In, Distinct}
 use Rattle.words.specs.Inversions.{smallerIn}
 use Rattle.arrangements.specs.Permutation.{Permutation, standsIn}

@@ -1,10 +1,12 @@
 -- The permutation of a rank: unranking inverts ranking both ways. Assumes nothing.
+--   lastly d u    the permutation whose last entry is d, and whose others stand as those of u do; `parted` says that every permutation is made so
+--   unrank-is-a-permutation, rank-of-unrank, unrank-of-rank    unranking below n!
 use mathlib.Core.Path.{_≡_, refl, sym, ap, ap₂, subst, _∙_}
 use mathlib.Core.Logic.{_⊎_, inl, inr}
 use mathlib.Core.Bool.{Bool, true, false}
 use mathlib.Core.List.{List, [], _∷_, _++_, map}
 use Prim.Native.Nat.{ℕ, zero, suc, _+_, _*_, _-_, _/_, _%_, _≤_, _<_}
-use native.Mathlib.Nat.{le-refl, mod-lt, mod-eq-of-lt, div-eq-of-lt, div-add-mod', div-lt-iff-lt-mul, add-mul-div-right, add-mul-mod-self-right, eq-or-lt-of-le, suc-ne-zero}
+use native.Mathlib.Nat.{mod-lt, mod-eq-of-lt, div-eq-of-lt, div-add-mod', div-lt-iff-lt-mul, add-mul-div-right, add-mul-mod-self-right, eq-or-lt-of-le, suc-ne-zero}
 use native.Mathlib.Numerals.{add-one}
 use native.Mathlib.Omega.{arith}
 use borrow.Author.Tests.{lt-ltb, le-ltb, ltb-true, ltb-false}
@@ -13,7 +15,6 @@ use lib.ListN.{length, getD, take, length-append, length-map, List·getD-append}
 use lib.Seq.{take-suc, take-all, length-take-le, getD-take, getD-at, ext-getD}
 use Rattle.words.specs.Pick.{pick}
 use Rattle.words.specs.Factorial.{factorial}
-use Rattle.words.specs.Inversions.{smallerIn}
 use Rattle.arrangements.specs.Permutation.{Permutation}
 use Rattle.arrangements.specs.Rank.{rankBelow, rankOf, raise, unrankOf}
 use Rattle.arrangements.proofs.Places.{ByPlaces, map-at, by-places, from-places}

@@ -1,6 +1,6 @@
 -- Permutations as lists (01, "Permutations"; DLMF 26.13): what stands at place i is the image of i. Assumes nothing.
 --   Permutation n p    p has n entries, all below n, and no two the same: a bijection of 0 .. n-1
---   isPermutation n p    the same as a test
+--   isPermutation p    the same as a test, of as many entries as there are
 --   identity n    0, 1 .. n-1, which sends each place to itself
 --   descending n    n-1 .. 1, 0
 --   compose p q    p after q, which sends i to p(q(i))
