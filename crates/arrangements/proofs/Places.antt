@@ -4,7 +4,7 @@
 --   distinct-at    no two places of a list hold the same
 --   ByPlaces n p    a permutation by its places; by-places, from-places    it is the permutation of the definition
 --   stands, stands-not    the test whether a number stands in a list
---   test-passes, test-fails    the test for a permutation passes exactly at permutations
+--   test-passes, test-tells, test-fails    the test for a permutation passes exactly at permutations
 use mathlib.Core.Path.{_≡_, refl, sym, ap, subst}
 use mathlib.Core.Logic.{inl, inr, _↔_}
 use mathlib.Core.Bool.{Bool, true, false, true≢false}
@@ -118,18 +118,21 @@ fits-not n (x ∷ xs) e b d = go (leb n x) refl (standsIn x xs) refl e (fits-not
     go false p true q e ih = d .0 (stands x xs q)
     go false p false q e ih = ih e (b .1) (d .1)
 
-pub test-passes : (p : List ℕ) → Permutation (length p) p → isPermutation p ≡ true
+pub test-passes : (n : ℕ) (p : List ℕ) → Permutation n p → isPermutation p ≡ true
 unfolding isPermutation
-test-passes p h = go (allFit (length p) p) refl
+test-passes n p h = go (allFit (length p) p) refl
   where
     go : (t : Bool) → allFit (length p) p ≡ t → allFit (length p) p ≡ true
     go true e = e
-    go false e = absurd (fits-not (length p) p e (h .below) (h .distinct))
+    go false e = absurd (fits-not (length p) p e (subst (λ (m : ℕ). Below m p) (sym (h .long)) (h .below)) (h .distinct))
 
-pub test-fails : (p : List ℕ) → (Permutation (length p) p → ⊥) → isPermutation p ≡ false
+pub test-tells : (n : ℕ) (p : List ℕ) → length p ≡ n → isPermutation p ≡ true → Permutation n p
 unfolding isPermutation
-test-fails p h = go (allFit (length p) p) refl
+test-tells n p l e = record { long = l; below = subst (λ (m : ℕ). Below m p) l (fits (length p) p e .0); distinct = fits (length p) p e .1 }
+
+pub test-fails : (n : ℕ) (p : List ℕ) → length p ≡ n → (Permutation n p → ⊥) → isPermutation p ≡ false
+test-fails n p l h = go (isPermutation p) refl
   where
-    go : (t : Bool) → allFit (length p) p ≡ t → allFit (length p) p ≡ false
-    go true e = absurd (h (record { long = refl; below = fits (length p) p e .0; distinct = fits (length p) p e .1 }))
+    go : (t : Bool) → isPermutation p ≡ t → isPermutation p ≡ false
+    go true e = absurd (h (test-tells n p l e))
     go false e = e

@@ -1,0 +1,53 @@
+-- What the check of a record tells. Assumes nothing.
+--   word-at, word-long    the list of a record and its entries
+--   refuses-or-gives    an answer is not both a refusal and a value
+--   taken-holds, holds-taken    the check passes exactly where the record holds a permutation
+--   verdict-refuses, verdict-gives    what the verdict of the check tells
+use mathlib.Core.Path.{_≡_, refl, sym, ap, _∙_}
+use mathlib.Core.Bool.{Bool, true, false, not}
+use mathlib.Core.List.{List}
+use Prim.Native.Nat.{ℕ, _≤_, _<_}
+use native.Mathlib.Omega.{arith}
+use borrow.Author.Tests.{ltb-false, le-ltb}
+use lib.ListN.{length, getD}
+use lib.Seq.{length-take-le, getD-take}
+use Rattle.arrangements.specs.Permutation.{isPermutation}
+use Rattle.arrangements.proofs.Places.{test-tells, test-passes}
+use Rattle.answers.specs.declared.Refusal.{Refusal}
+use Rattle.answers.specs.Says.{Says, refuses, gives, refusedIf, numberOf}
+use Rattle.permutation.specs.declared.Permutation.{Permutation}
+use Rattle.permutation.specs.declared.Verdict.{Verdict}
+use Rattle.permutation.specs.declared.Verdict.the-variants as verdict
+use Rattle.permutation.specs.Record.{capacity, wordOf, Holds, verdictSays}
+use Rattle.permutation.specs.Rules.{tooLong, notAPermutation, taken}
+
+pub word-at : (p : Permutation) (i : ℕ) → i < p .len → getD (wordOf p) i 0 ≡ getD (p .entries) i 0
+word-at p i h = getD-take (p .len) (p .entries) i 0 h
+
+pub word-long : (p : Permutation) → length (p .entries) ≡ capacity → p .len ≤ capacity → length (wordOf p) ≡ p .len
+word-long p e h = length-take-le (p .len) (p .entries) (omega arith)
+
+pub taken-holds : (p : Permutation) → Holds p → taken p ≡ gives (wordOf p)
+unfolding taken
+taken-holds p h = simp (le-ltb capacity (p .len) (h .short), test-passes (p .len) (wordOf p) (h .permutation))
+
+pub refuses-or-gives : {A : Type 0} (e : ℕ) (a : A) → refuses e ≡ gives a → ⊥
+refuses-or-gives e a q = let z : _≡_ {A = ℕ} 0 1 = cc in omega arith
+
+pub holds-taken : (p : Permutation) (w : List ℕ) → length (p .entries) ≡ capacity → taken p ≡ gives w → Holds p
+unfolding taken
+holds-taken p w l = go (tooLong (p .len)) refl (isPermutation (wordOf p)) refl
+  where
+    go : (s : Bool) → tooLong (p .len) ≡ s → (t : Bool) → isPermutation (wordOf p) ≡ t → refusedIf s 1 (refusedIf (not t) 10 (gives (wordOf p))) ≡ gives w → Holds p
+    go true a t b e = absurd (refuses-or-gives 1 w e)
+    go false a true b e = record { short = ltb-false capacity (p .len) a; permutation = test-tells (p .len) (wordOf p) (word-long p l (ltb-false capacity (p .len) a)) b }
+    go false a false b e = absurd (refuses-or-gives 10 w e)
+
+-- ---- the verdict of the check
+
+module _ (p : Permutation) (v : Verdict) (says : verdictSays v (wordOf p) ≡ taken p) where
+  pub verdict-refuses : (e : Refusal) → v ≡ verdict.Refused e → taken p ≡ refuses (numberOf e)
+  verdict-refuses e q = sym says ∙ ap (λ (x : Verdict). verdictSays x (wordOf p)) q
+
+  pub verdict-gives : v ≡ verdict.Given → length (p .entries) ≡ capacity → Holds p
+  verdict-gives q l = holds-taken p (wordOf p) l (sym says ∙ ap (λ (x : Verdict). verdictSays x (wordOf p)) q)

@@ -1,0 +1,113 @@
+// Permutations of up to twenty entries: image, inverse, composition, sign, rank, unrank and successor (document 01, "Permutations").
+ghost use mathlib.Core.Path.{_≡_};
+ghost use Prim.Native.Nat.{_≤_};
+ghost use Rattle.answers.specs.Says.{answerSays};
+ghost use Rattle.arrangements.specs.Permutation.{isPermutation};
+ghost use Rattle.permutation.specs.Record.{capacity, wordOf, recordOf, verdictSays, signsSays, refusal, giving, Arranges};
+ghost use Rattle.permutation.specs.Rules.{taken, imageSays, inverseSays, composeSays, signSays, rankSays, unrankSays, successorSays};
+use answers::Answer;
+use answers::Refusal;
+use answers::Sign;
+
+// How many entries a record holds, and so the greatest length.
+pub const CAPACITY: usize = 20;
+
+// A permutation of len entries: the image of place i is entries[i]. What stands past the length is ignored when taken, and zero when given.
+pub struct Permutation {
+    pub entries: [u64; CAPACITY],
+    pub len: u64,
+}
+
+// A sign, or why there is none.
+pub enum Signs {
+    Is(Sign),
+    Refused(Refusal),
+}
+
+// Whether there is an answer, or why there is none.
+pub enum Verdict {
+    Given,
+    Refused(Refusal),
+}
+
+// A permutation, or why there is none; then the record beside the verdict is the empty one.
+pub struct Arranged {
+    pub verdict: Verdict,
+    pub value: Permutation,
+}
+
+// Whether the first len entries are a bijection of 0 .. len-1. It is judged here and nowhere else.
+fn is_permutation(p: Permutation) -> bool
+    requires { ⌜ p .len ≤ capacity ⌝ }
+    ensures { λ r. ⌜ r ≡ isPermutation (wordOf p) ⌝ }
+{
+    let n = p.len;
+    let mut seen = [false; CAPACITY];
+    let mut i = 0u64;
+    while i < n {
+        let x = p.entries[i as usize];
+        if x >= n {
+            return false;
+        }
+        if seen[x as usize] {
+            return false;
+        }
+        seen[x as usize] = true;
+        i += 1;
+    }
+    true
+}
+
+// The answer that refuses: beside it stands the empty permutation.
+fn refused(e: Refusal) -> Arranged
+    ensures { λ r. ⌜ r ≡ refusal e ⌝ }
+{
+    let none = Permutation {
+        entries: [0u64; CAPACITY],
+        len: 0,
+    };
+    Arranged {
+        verdict: Verdict::Refused(e),
+        value: none,
+    }
+}
+
+// The answer that gives p.
+fn given(p: Permutation) -> Arranged
+    ensures { λ r. ⌜ r ≡ giving p ⌝ }
+{
+    Arranged {
+        verdict: Verdict::Given,
+        value: p,
+    }
+}
+
+// 1 if the length passes the capacity, 10 if it is no permutation.
+fn checked(p: Permutation) -> Verdict
+    ensures { λ r. ⌜ verdictSays r (wordOf p) ≡ taken p ⌝ }
+{
+    let n = p.len;
+    if n > CAPACITY as u64 {
+        return Verdict::Refused(Refusal::TooWide);
+    }
+    if is_permutation(p) {
+        return Verdict::Given;
+    }
+    Verdict::Refused(Refusal::NotAPermutation)
+}
+
+// The image of place i: 1 and 10 of the record, then 7 if there is no such place.
+pub fn image(p: Permutation, i: u64) -> Answer
+    ensures { λ r. ⌜ answerSays r ≡ imageSays p i ⌝ }
+{
+    match checked(p) {
+        Verdict::Refused(e) => Answer::Refused(e),
+        Verdict::Given => {
+            let n = p.len;
+            if i >= n {
+                return Answer::Refused(Refusal::Outside);
+            }
+            Answer::Is(p.entries[i as usize])
+        }
+    }
+}
