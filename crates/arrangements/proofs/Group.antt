@@ -2,7 +2,7 @@
 --   identity-at, identity-long, identity-is-a-permutation    what the identity holds
 --   compose-at, compose-is-a-permutation, compose-associative    p after q
 --   compose-identity    p after the identity is p
---   inverse-of-entry, inverse-is-a-permutation    the inverse
+--   inverse-long, inverse-place, inverse-is-a-permutation    the inverse
 --   compose-inverse, inverse-compose    composed with p, either way round, it is the identity
 use mathlib.Core.Path.{_≡_, refl, sym, ap, ap₂, subst, _∙_}
 use mathlib.Core.Logic.{inl, inr}
@@ -97,7 +97,7 @@ place-of v (x ∷ xs) h = go (eqb x v) refl h (place-of v xs)
     go false e (inr h) ih = (suc-le-suc (ih h .0), ih h .1)
 
 module _ (n : ℕ) (p : List ℕ) (h : Permutation n p) where
-  inverse-long : length (inverse p) ≡ n
+  pub inverse-long : length (inverse p) ≡ n
   inverse-long = length-map (identity (length p)) (λ v. placeOf v p) ∙ identity-long (length p) ∙ h .long
 
   inverse-at : (v : ℕ) → v < n → getD (inverse p) v 0 ≡ placeOf v p
@@ -106,7 +106,7 @@ module _ (n : ℕ) (p : List ℕ) (h : Permutation n p) where
       ∙ ap (λ (u : ℕ). placeOf u p) (identity-at (length p) v (omega (arith, h .long)))
 
   -- the entry of p at the place that the inverse gives is v
-  inverse-place : (v : ℕ) → v < n → (getD (inverse p) v 0 < n) × (getD p (getD (inverse p) v 0) 0 ≡ v)
+  pub inverse-place : (v : ℕ) → v < n → (getD (inverse p) v 0 < n) × (getD p (getD (inverse p) v 0) 0 ≡ v)
   inverse-place v l = (omega (arith, inverse-at v l, t .0, h .long), ap (λ (i : ℕ). getD p i 0) (inverse-at v l) ∙ t .1)
     where
       t : (placeOf v p < length p) × (getD p (placeOf v p) 0 ≡ v)

@@ -1,2 +1,4 @@
 pub mod Seen
 pub mod Taken
+pub mod Filled
+pub mod Arranging

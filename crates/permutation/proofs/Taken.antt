@@ -1,7 +1,8 @@
 -- What the check of a record tells. Assumes nothing.
 --   word-at, word-long    the list of a record and its entries
+--   holds-below    the entries of a permutation are below its length
 --   refuses-or-gives    an answer is not both a refusal and a value
---   taken-holds, holds-taken    the check passes exactly where the record holds a permutation
+--   tested-holds, taken-holds, holds-taken    the check passes exactly where the record holds a permutation
 --   verdict-refuses, verdict-gives    what the verdict of the check tells
 use mathlib.Core.Path.{_≡_, refl, sym, ap, _∙_}
 use mathlib.Core.Bool.{Bool, true, false, not}
@@ -12,7 +13,7 @@ use borrow.Author.Tests.{ltb-false, le-ltb}
 use lib.ListN.{length, getD}
 use lib.Seq.{length-take-le, getD-take}
 use Rattle.arrangements.specs.Permutation.{isPermutation}
-use Rattle.arrangements.proofs.Places.{test-tells, test-passes}
+use Rattle.arrangements.proofs.Places.{by-places, test-tells, test-passes}
 use Rattle.answers.specs.declared.Refusal.{Refusal}
 use Rattle.answers.specs.Says.{Says, refuses, gives, refusedIf, numberOf}
 use Rattle.permutation.specs.declared.Permutation.{Permutation}
@@ -27,6 +28,12 @@ word-at p i h = getD-take (p .len) (p .entries) i 0 h
 pub word-long : (p : Permutation) → length (p .entries) ≡ capacity → p .len ≤ capacity → length (wordOf p) ≡ p .len
 word-long p e h = length-take-le (p .len) (p .entries) (omega arith)
 
+pub holds-below : (p : Permutation) → Holds p → (i : ℕ) → i < p .len → getD (p .entries) i 0 < p .len
+holds-below p h i l = omega (arith, word-at p i l, by-places (p .len) (wordOf p) (h .permutation) .below i l)
+
+pub tested-holds : (p : Permutation) → length (p .entries) ≡ capacity → p .len ≤ capacity → isPermutation (wordOf p) ≡ true → Holds p
+tested-holds p e h t = record { short = h; permutation = test-tells (p .len) (wordOf p) (word-long p e h) t }
+
 pub taken-holds : (p : Permutation) → Holds p → taken p ≡ gives (wordOf p)
 unfolding taken
 taken-holds p h = simp (le-ltb capacity (p .len) (h .short), test-passes (p .len) (wordOf p) (h .permutation))
@@ -40,7 +47,7 @@ holds-taken p w l = go (tooLong (p .len)) refl (isPermutation (wordOf p)) refl
   where
     go : (s : Bool) → tooLong (p .len) ≡ s → (t : Bool) → isPermutation (wordOf p) ≡ t → refusedIf s 1 (refusedIf (not t) 10 (gives (wordOf p))) ≡ gives w → Holds p
     go true a t b e = absurd (refuses-or-gives 1 w e)
-    go false a true b e = record { short = ltb-false capacity (p .len) a; permutation = test-tells (p .len) (wordOf p) (word-long p l (ltb-false capacity (p .len) a)) b }
+    go false a true b e = tested-holds p l (ltb-false capacity (p .len) a) b
     go false a false b e = absurd (refuses-or-gives 10 w e)
 
 -- ---- the verdict of the check

@@ -3,6 +3,7 @@
 --   wordOf p    the permutation as a list: the first len entries; what stands past them is ignored
 --   recordOf w    the record of a list: zeros past its length
 --   Holds p    the record holds a permutation, not longer than the capacity
+--   Agree p q    both do, and they have one length
 --   verdictSays v a    what a verdict means that stands beside the value a
 --   signsSays, arrangedSays    what each case of an answer means
 --   valueOf s    the record beside the verdict: that of the list, and after a refusal that of the empty one
@@ -35,6 +36,11 @@ recordOf w = record { entries = w ++ replicate (capacity - length w) 0; len = le
 pub record Holds (p : Permutation) : Type 0 where
   pub short : p .len ≤ capacity
   pub permutation : IsPermutation (p .len) (wordOf p)
+
+pub record Agree (p q : Permutation) : Type 0 where
+  pub left : Holds p
+  pub right : Holds q
+  pub lengths : p .len ≡ q .len
 
 -- ---- what each case of an answer means
 

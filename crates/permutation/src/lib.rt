@@ -2,8 +2,8 @@
 ghost use mathlib.Core.Path.{_≡_};
 ghost use Prim.Native.Nat.{_≤_};
 ghost use Rattle.answers.specs.Says.{answerSays};
-ghost use Rattle.arrangements.specs.Permutation.{isPermutation};
-ghost use Rattle.permutation.specs.Record.{capacity, wordOf, recordOf, verdictSays, signsSays, refusal, giving, Arranges};
+ghost use Rattle.arrangements.specs.Permutation.{isPermutation, compose as composeOf, inverse as inverseOf};
+ghost use Rattle.permutation.specs.Record.{capacity, wordOf, recordOf, Holds, Agree, verdictSays, signsSays, refusal, giving, Arranges};
 ghost use Rattle.permutation.specs.Rules.{taken, imageSays, inverseSays, composeSays, signSays, rankSays, unrankSays, successorSays};
 use answers::Answer;
 use answers::Refusal;
@@ -110,4 +110,76 @@ pub fn image(p: Permutation, i: u64) -> Answer
             Answer::Is(p.entries[i as usize])
         }
     }
+}
+
+// The place that each entry stands at, of a permutation.
+fn inverted(p: Permutation) -> Permutation
+    requires { ⌜ Holds p ⌝ }
+    ensures { λ r. ⌜ r ≡ recordOf (inverseOf (wordOf p)) ⌝ }
+{
+    let n = p.len;
+    let mut out = [0u64; CAPACITY];
+    let mut i = 0u64;
+    while i < n {
+        let x = p.entries[i as usize];
+        out[x as usize] = i;
+        i += 1;
+    }
+    Permutation {
+        entries: out,
+        len: n,
+    }
+}
+
+// The inverse: 1 and 10 of the record.
+pub fn inverse(p: Permutation) -> Arranged
+    ensures { λ r. ⌜ Arranges (inverseSays p) r ⌝ }
+{
+    match checked(p) {
+        Verdict::Refused(e) => refused(e),
+        Verdict::Given => given(inverted(p)),
+    }
+}
+
+// p after q, of two permutations of one length.
+fn composed(p: Permutation, q: Permutation) -> Permutation
+    requires { ⌜ Agree p q ⌝ }
+    ensures { λ r. ⌜ r ≡ recordOf (composeOf (wordOf p) (wordOf q)) ⌝ }
+{
+    let n = p.len;
+    let mut out = [0u64; CAPACITY];
+    let mut i = 0u64;
+    while i < n {
+        let j = q.entries[i as usize];
+        out[i as usize] = p.entries[j as usize];
+        i += 1;
+    }
+    Permutation {
+        entries: out,
+        len: n,
+    }
+}
+
+// p after q, which sends i to p(q(i)): 1 of either record, 8 if their lengths differ, 10 of either.
+pub fn compose(p: Permutation, q: Permutation) -> Arranged
+    ensures { λ r. ⌜ Arranges (composeSays p q) r ⌝ }
+{
+    let n = p.len;
+    let m = q.len;
+    if n > CAPACITY as u64 {
+        return refused(Refusal::TooWide);
+    }
+    if m > CAPACITY as u64 {
+        return refused(Refusal::TooWide);
+    }
+    if n != m {
+        return refused(Refusal::Shape);
+    }
+    if !is_permutation(p) {
+        return refused(Refusal::NotAPermutation);
+    }
+    if !is_permutation(q) {
+        return refused(Refusal::NotAPermutation);
+    }
+    given(composed(p, q))
 }
