@@ -24,11 +24,11 @@ use Rattle.arrangements.proofs.Smaller.{permutation-has}
 
 -- ---- the identity
 
-pub count-up-long : (i n : ℕ) → length (countUp i n) ≡ n
+count-up-long : (i n : ℕ) → length (countUp i n) ≡ n
 count-up-long i zero = refl
 count-up-long i (suc n) = ap suc (count-up-long (suc i) n)
 
-pub count-up-at : (i n j : ℕ) → j < n → getD (countUp i n) j 0 ≡ i + j
+count-up-at : (i n j : ℕ) → j < n → getD (countUp i n) j 0 ≡ i + j
 count-up-at i zero j h = absurd (not-suc-le-zero h)
 count-up-at i (suc n) zero h = sym (add-zero i)
 count-up-at i (suc n) (suc j) h = count-up-at (suc i) n j (le-of-suc-le-suc h) ∙ suc-add i j ∙ sym (add-suc i j)

@@ -1,5 +1,5 @@
 -- The rank of a permutation: it is below the factorial, and grows with the order. Assumes nothing.
---   factorial-positive, factorial-next    n! is not 0, and (n + 1)! is n times n! and n! more
+--   factorial-next    (n + 1)! is n times n!, and n! more
 --   rank-below-factorial    k places weigh less than k!
 --   Rises, falling-rank, rising-rank    places whose entries fall weigh nothing, and places whose entries rise weigh k! - 1
 --   rank-snoc    what one more entry at the end adds
@@ -9,7 +9,7 @@
 use mathlib.Core.Path.{_≡_, refl, sym, ap, ap₂, _∙_}
 use mathlib.Core.List.{List, [], _∷_, _++_, map}
 use Prim.Native.Nat.{ℕ, zero, suc, _+_, _*_, _-_, _≤_, _<_, zero-le}
-use native.Mathlib.Nat.{mul-le-mul-right, mul-pos, zero-lt-suc, add-zero, add-suc, add-sub-of-le}
+use native.Mathlib.Nat.{mul-le-mul-right, add-zero, add-suc, add-sub-of-le}
 use native.Mathlib.Numerals.{add-one}
 use native.Mathlib.Omega.{arith}
 use borrow.Author.Tests.{lt-ltb, le-ltb}
@@ -19,17 +19,14 @@ use lib.Seq.{take-append-le, ext-getD, getD-drop, getD-take, take-append-seam, g
 use Rattle.words.specs.Colex.{ColexLt}
 use Rattle.words.specs.Factorial.{factorial}
 use Rattle.words.specs.Inversions.{smallerIn}
+use Rattle.words.proofs.Factorial.{factorial-none, factorial-positive}
+use Rattle.words.proofs.Inversions.{smaller-append}
 use Rattle.arrangements.specs.Permutation.{Permutation}
 use Rattle.arrangements.specs.Rank.{digit, rankBelow, rankOf}
 use Rattle.arrangements.proofs.Places.{map-at, by-places}
-use Rattle.arrangements.proofs.Smaller.{one-if, smaller-append, smaller-one-more, smaller-monotone, smaller-at-most, smaller-map, smaller-split, smaller-in-permutation}
+use Rattle.arrangements.proofs.Smaller.{one-if, smaller-one-more, smaller-monotone, smaller-at-most, smaller-map, smaller-split, smaller-in-permutation}
 
 -- ---- the factorial
-
-pub factorial-positive : (n : ℕ) → 0 < factorial n
-unfolding factorial
-factorial-positive zero = zero-lt-suc 0
-factorial-positive (suc n) = mul-pos (zero-lt-suc n) (factorial-positive n)
 
 pub factorial-next : (n : ℕ) → factorial (suc n) ≡ n * factorial n + factorial n
 unfolding factorial
@@ -63,7 +60,7 @@ falling-rank p (suc k) l h = omega (arith, falling-rank p k (omega arith) (λ i 
 
 pub rising-rank : (p : List ℕ) (k : ℕ) → k ≤ length p → Rises p k → suc (rankBelow p k) ≡ factorial k
 unfolding rankBelow
-rising-rank p zero l h = unfold factorial in refl
+rising-rank p zero l h = sym factorial-none
 rising-rank p (suc k) l h =
     omega (arith, rising-rank p k (omega arith) (λ i j a b. h i j a (omega arith)), factorial-next k, ap (λ (d : ℕ). d * factorial k) all)
   where

@@ -14,13 +14,15 @@ use borrow.Author.Tests.{lt-ltb, le-ltb, ltb-true, ltb-false}
 use lib.Dec.{ltb}
 use lib.ListN.{getD}
 use Rattle.words.specs.Pick.{pick}
-use Rattle.words.specs.Word.{Below}
+use Rattle.words.specs.declared.Family.the-variants.{Forbidden}
+use Rattle.words.specs.Word.{Below, Monotone}
 use Rattle.words.specs.HowMany.{In, Distinct}
 use Rattle.words.specs.Inversions.{smallerIn, inversions, parity}
+use Rattle.words.proofs.Inversions.{increasing-has-no-inversions}
 use Rattle.arrangements.specs.Permutation.{Permutation, standsIn, countUp, identity, compose, inverse}
 use Rattle.arrangements.proofs.Places.{by-places, stands-not}
-use Rattle.arrangements.proofs.Smaller.{one-if, smaller-split, weigh, weigh-next, permutation-has}
-use Rattle.arrangements.proofs.Group.{count-up-at, count-up-long, identity-is-a-permutation, compose-identity, inverse-is-a-permutation, compose-inverse}
+use Rattle.arrangements.proofs.Smaller.{one-if, weigh, weigh-next, permutation-has}
+use Rattle.arrangements.proofs.Group.{identity-is-a-permutation, compose-identity, inverse-is-a-permutation, compose-inverse}
 
 -- ---- sums over a list
 
@@ -138,15 +140,13 @@ below-in n x [] b h = absurd h
 below-in n x (y ∷ ys) b (inl e) = omega (arith, b .0)
 below-in n x (y ∷ ys) b (inr h) = below-in n x ys (b .1) h
 
-inversions-of-count-up : (i n : ℕ) → inversions (countUp i n) ≡ 0
-unfolding inversions
-inversions-of-count-up i zero = refl
-inversions-of-count-up i (suc n) =
-    omega (
-      arith,
-      inversions-of-count-up (suc i) n,
-      smaller-split i 0 (countUp (suc i) n) zero-le (λ j l. omega arith) (λ j l k. omega (arith, count-up-at (suc i) n j (omega (arith, count-up-long (suc i) n)))),
-    )
+count-up-increases : (i n : ℕ) → Monotone Forbidden (countUp i n)
+count-up-increases i zero = tt
+count-up-increases i (suc zero) = tt
+count-up-increases i (suc (suc n)) = (le-refl (suc i), count-up-increases (suc i) (suc n))
+
+inversions-of-identity : (n : ℕ) → inversions (identity n) ≡ 0
+inversions-of-identity n = increasing-has-no-inversions Forbidden (identity n) (count-up-increases 0 n)
 
 pub parity-of-compose : (n : ℕ) (p q : List ℕ) → Permutation n p → Permutation n q → parity (inversions (compose p q)) ≡ parity (inversions p + inversions q)
 unfolding Injective
@@ -167,7 +167,7 @@ parity-of-compose n p q g h = omega (arith, both)
         )
 
     left : parity (inversions p) ≡ parity (reversals f (identity n))
-    left = omega (arith, reversals-parity f (identity n), ap inversions (compose-identity n p (g .long)), inversions-of-count-up 0 n)
+    left = omega (arith, reversals-parity f (identity n), ap inversions (compose-identity n p (g .long)), inversions-of-identity n)
 
     both : parity (inversions (compose p q) + inversions q) ≡ parity (inversions p)
     both = reversals-parity f q ∙ ap parity same ∙ sym left
@@ -178,5 +178,5 @@ parity-of-inverse n p h =
       arith,
       parity-of-compose n p (inverse p) h (inverse-is-a-permutation n p h),
       ap inversions (compose-inverse n p h),
-      inversions-of-count-up 0 n,
+      inversions-of-identity n,
     )

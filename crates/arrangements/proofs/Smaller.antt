@@ -1,5 +1,5 @@
 -- How many entries of a list are smaller than a number. Assumes nothing.
---   smaller-append, smaller-one-more    in a list of two parts, and with one place more
+--   smaller-one-more    with one place more
 --   smaller-at-most    not more than there are entries
 --   smaller-monotone, smaller-map    for a greater number, and under a map that keeps the order
 --   smaller-split    where the first i are smaller and the others are not, there are i
@@ -8,7 +8,7 @@
 --   permutation-has    a permutation of n entries has each number below n
 use mathlib.Core.Path.{_≡_, refl, sym, ap, ap₂, subst, _∙_}
 use mathlib.Core.Bool.{Bool, true, false}
-use mathlib.Core.List.{List, [], _∷_, _++_, map}
+use mathlib.Core.List.{List, [], _∷_, map}
 use Prim.Native.Nat.{ℕ, zero, suc, _+_, _-_, _≤_, _<_, zero-le, suc-le-suc}
 use native.Mathlib.Nat.{not-suc-le-zero, le-of-suc-le-suc, zero-lt-suc, add-zero, zero-add, add-suc, add-sub-of-le}
 use native.Mathlib.Omega.{arith}
@@ -19,6 +19,7 @@ use lib.Seq.{take-suc}
 use Rattle.words.specs.Pick.{pick}
 use Rattle.words.specs.HowMany.{In, Distinct}
 use Rattle.words.specs.Inversions.{smallerIn}
+use Rattle.words.proofs.Inversions.{smaller-append}
 use Rattle.arrangements.specs.Permutation.{Permutation, standsIn}
 use Rattle.arrangements.proofs.Places.{stands, by-places}
 
@@ -27,11 +28,6 @@ use Rattle.arrangements.proofs.Places.{stands, by-places}
 -- 1 if the test holds
 abbrev pub one-if : Bool → ℕ
 one-if t = pick t 1 0
-
-pub smaller-append : (x : ℕ) (u v : List ℕ) → smallerIn x (u ++ v) ≡ smallerIn x u + smallerIn x v
-unfolding smallerIn
-smaller-append x [] v = omega arith
-smaller-append x (y ∷ ys) v = omega (arith, smaller-append x ys v)
 
 -- one place more
 pub smaller-one-more : (x : ℕ) (w : List ℕ) (k : ℕ) → k < length w → smallerIn x (take (suc k) w) ≡ smallerIn x (take k w) + one-if (ltb (getD w k 0) x)

@@ -15,11 +15,12 @@ use lib.ListN.{length, getD, take, length-append, length-map, List·getD-append}
 use lib.Seq.{take-suc, take-all, length-take-le, getD-take, getD-at, ext-getD}
 use Rattle.words.specs.Pick.{pick}
 use Rattle.words.specs.Factorial.{factorial}
+use Rattle.words.proofs.Factorial.{factorial-positive}
 use Rattle.arrangements.specs.Permutation.{Permutation}
 use Rattle.arrangements.specs.Rank.{rankBelow, rankOf, raise, unrankOf}
 use Rattle.arrangements.proofs.Places.{ByPlaces, map-at, by-places, from-places}
 use Rattle.arrangements.proofs.Smaller.{smaller-map, smaller-in-permutation}
-use Rattle.arrangements.proofs.Rank.{factorial-positive, rank-below-factorial, rank-snoc, rank-map}
+use Rattle.arrangements.proofs.Rank.{rank-below-factorial, rank-snoc, rank-map}
 
 -- ---- room for d
 

@@ -11,7 +11,7 @@ use native.Mathlib.Omega.{arith}
 use lib.ListN.{length, getD, take, set, replicate, length-set, length-replicate}
 use lib.Seq.{length-take-le, getD-take, getD-set-same, getD-set-other}
 use Rattle.arrangements.specs.Permutation.{Permutation, isPermutation}
-use Rattle.arrangements.proofs.Places.{ByPlaces, by-places, from-places, test-passes, test-fails}
+use Rattle.arrangements.proofs.Places.{by-places, from-places, test-passes, test-fails}
 
 pub record Seen (m : ℕ) (e : List ℕ) (n i : ℕ) (seen : List Bool) : Type 0 where
   pub long : length seen ≡ m

@@ -1,21 +1,21 @@
 -- What the check of a record tells. Assumes nothing.
 --   word-at, word-long    the list of a record and its entries
 --   holds-below    the entries of a permutation are below its length
---   refuses-or-gives    an answer is not both a refusal and a value
 --   tested-holds, taken-holds, holds-taken    the check passes exactly where the record holds a permutation
 --   verdict-refuses, verdict-gives    what the verdict of the check tells
-use mathlib.Core.Path.{_≡_, refl, sym, ap, _∙_}
-use mathlib.Core.Bool.{Bool, true, false, not}
+use mathlib.Core.Path.{_≡_, sym, ap, _∙_}
+use mathlib.Core.Bool.{true}
 use mathlib.Core.List.{List}
 use Prim.Native.Nat.{ℕ, _≤_, _<_}
 use native.Mathlib.Omega.{arith}
-use borrow.Author.Tests.{ltb-false, le-ltb}
+use borrow.Author.Tests.{ltb-false, le-ltb, not-false}
 use lib.ListN.{length, getD}
 use lib.Seq.{length-take-le, getD-take}
 use Rattle.arrangements.specs.Permutation.{isPermutation}
 use Rattle.arrangements.proofs.Places.{by-places, test-tells, test-passes}
 use Rattle.answers.specs.declared.Refusal.{Refusal}
-use Rattle.answers.specs.Says.{Says, refuses, gives, refusedIf, numberOf}
+use Rattle.answers.specs.Says.{refuses, gives, refusedIf, numberOf}
+use Rattle.answers.proofs.Says.{passed}
 use Rattle.permutation.specs.declared.Permutation.{Permutation}
 use Rattle.permutation.specs.declared.Verdict.{Verdict}
 use Rattle.permutation.specs.declared.Verdict.the-variants as verdict
@@ -38,17 +38,12 @@ pub taken-holds : (p : Permutation) → Holds p → taken p ≡ gives (wordOf p)
 unfolding taken
 taken-holds p h = simp (le-ltb capacity (p .len) (h .short), test-passes (p .len) (wordOf p) (h .permutation))
 
-pub refuses-or-gives : {A : Type 0} (e : ℕ) (a : A) → refuses e ≡ gives a → ⊥
-refuses-or-gives e a q = let z : _≡_ {A = ℕ} 0 1 = cc in omega arith
-
 pub holds-taken : (p : Permutation) (w : List ℕ) → length (p .entries) ≡ capacity → taken p ≡ gives w → Holds p
 unfolding taken
-holds-taken p w l = go (tooLong (p .len)) refl (isPermutation (wordOf p)) refl
-  where
-    go : (s : Bool) → tooLong (p .len) ≡ s → (t : Bool) → isPermutation (wordOf p) ≡ t → refusedIf s 1 (refusedIf (not t) 10 (gives (wordOf p))) ≡ gives w → Holds p
-    go true a t b e = absurd (refuses-or-gives 1 w e)
-    go false a true b e = tested-holds p l (ltb-false capacity (p .len) a) b
-    go false a false b e = absurd (refuses-or-gives 10 w e)
+holds-taken p w l e =
+    let first = passed (tooLong (p .len)) 1 (refusedIf (notAPermutation p) 10 (gives (wordOf p))) w e in
+    let second = passed (notAPermutation p) 10 (gives (wordOf p)) w (first .1) in
+    tested-holds p l (ltb-false capacity (p .len) (first .0)) (not-false (isPermutation (wordOf p)) (second .0))
 
 -- ---- the verdict of the check
 

@@ -1,6 +1,7 @@
 -- The record of a permutation, and what each answer means in document 01's numbers. Assumes nothing.
 --   capacity    how many entries a record holds
 --   wordOf p    the permutation as a list: the first len entries; what stands past them is ignored
+--   zeros    a record's entries, all 0
 --   recordOf w    the record of a list: zeros past its length
 --   Holds p    the record holds a permutation, not longer than the capacity
 --   Agree p q    both do, and they have one length
@@ -11,8 +12,8 @@
 --   Arranges s r    the answer r says s, and holds the record that belongs to it
 use mathlib.Core.Path.{_≡_}
 use mathlib.Core.List.{List, [], _++_}
-use Prim.Native.Nat.{ℕ, _-_, _≤_}
-use lib.ListN.{length, take, replicate}
+use Prim.Native.Nat.{ℕ, _≤_}
+use lib.ListN.{length, take, drop, replicate}
 use Rattle.arrangements.specs.Permutation.{Permutation as IsPermutation}
 use Rattle.answers.specs.declared.Refusal.{Refusal}
 use Rattle.answers.specs.declared.Sign.{Sign}
@@ -30,8 +31,11 @@ capacity = 20
 abbrev pub wordOf : Permutation → List ℕ
 wordOf p = take (p .len) (p .entries)
 
+abbrev pub zeros : List ℕ
+zeros = replicate capacity 0
+
 abbrev pub recordOf : List ℕ → Permutation
-recordOf w = record { entries = w ++ replicate (capacity - length w) 0; len = length w }
+recordOf w = record { entries = w ++ drop (length w) zeros; len = length w }
 
 pub record Holds (p : Permutation) : Type 0 where
   pub short : p .len ≤ capacity

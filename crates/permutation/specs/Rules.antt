@@ -7,7 +7,7 @@ use mathlib.Core.Bool.{Bool, not}
 use mathlib.Core.List.{List}
 use Prim.Native.Nat.{ℕ, suc}
 use lib.Dec.{leb, ltb, eqb}
-use lib.ListN.{length, getD}
+use lib.ListN.{getD}
 use Rattle.words.specs.Factorial.{factorial}
 use Rattle.words.specs.Inversions.{inversions}
 use Rattle.arrangements.specs.Permutation.{isPermutation, compose, inverse}

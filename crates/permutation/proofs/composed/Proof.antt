@@ -6,16 +6,17 @@ use lib.ListN.{getD}
 use Rattle.arrangements.specs.Permutation.{compose}
 use Rattle.arrangements.proofs.Group.{compose-at, compose-long}
 use Rattle.permutation.specs.declared.Permutation.{Permutation}
-use Rattle.permutation.specs.Record.{capacity, wordOf, Holds}
+use Rattle.permutation.specs.Record.{wordOf, zeros, Holds}
 use Rattle.permutation.proofs.Taken.{word-at, holds-below}
-use Rattle.permutation.proofs.Filled.{Filled, fill-none, fill-more, filled-record}
+use Rattle.answers.proofs.Lent.{Filled, fill-none, fill-more}
+use Rattle.permutation.proofs.Filled.{at, filled-record}
 use Rattle.permutation.proofs.composed.Statement.{statement}
 use Rattle.permutation.proofs.composed.Tie as tie
 use Rattle.permutation.proofs.composed.Reads as reads
 use Rattle.permutation.proofs.composed.Lts as lts
 
 abbrev Inv-loop : tie.InvT-loop
-Inv-loop p q n out₀ i₀ out i = (i ≤ n) × Filled capacity (compose (wordOf p) (wordOf q)) out i
+Inv-loop p q n out₀ i₀ out i = (i ≤ n) × Filled (at (compose (wordOf p) (wordOf q))) zeros out i
 
 abbrev μ-loop : tie.MeasureT-loop
 μ-loop p q n out₀ i₀ out i = n - i
@@ -28,7 +29,7 @@ compose-entry p q f g e i l =
     ∙ sym (compose-at (wordOf p) (wordOf q) i (omega (arith, g .permutation .long)))
 
 loop-holds : tie.Need-loop-holds Inv-loop μ-loop
-loop-holds c = (omega arith, fill-none capacity (compose (wordOf (c .args .t1)) (wordOf (c .args .t2))))
+loop-holds c = (omega arith, fill-none (at (compose (wordOf (c .args .t1)) (wordOf (c .args .t2)))) zeros)
 
 mul-j : tie.Need-mul-j Inv-loop μ-loop
 mul-j c = omega (arith, c .before .before .pre .left .short)
@@ -64,7 +65,7 @@ loop-again c =
     let l = c .before .before .before .loop in
     (
       omega arith,
-      fill-more capacity (compose (wordOf (s .args .t1)) (wordOf (s .args .t2))) (l .out) (l .i) _ (omega (arith, s .pre .left .short))
+      fill-more (at (compose (wordOf (s .args .t1)) (wordOf (s .args .t2)))) zeros (l .out) (l .i) _ (omega (arith, s .pre .left .short))
       (compose-entry (s .args .t1) (s .args .t2) (s .pre .left) (s .pre .right) (s .pre .lengths) (l .i) (c .before .before .loop-test .taken)) (l .inv .1),
     )
 

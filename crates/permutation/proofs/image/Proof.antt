@@ -1,10 +1,7 @@
 -- `permutation::image` meets its contract: each return by the tests that led there. Assumes nothing.
-use mathlib.Core.Path.{_≡_, sym, ap, _∙_}
 use native.Mathlib.Omega.{arith}
 use borrow.Author.Needs.{needs}
 use borrow.Author.Tests.{le-leb, lt-leb}
-use lib.ListN.{length}
-use Rattle.permutation.specs.Record.{capacity, Holds}
 use Rattle.permutation.proofs.Taken.{word-at, taken-holds, verdict-refuses, verdict-gives}
 use Rattle.permutation.proofs.image.Statement.{statement}
 use Rattle.permutation.proofs.image.Tie as tie

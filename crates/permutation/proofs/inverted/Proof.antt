@@ -1,12 +1,9 @@
 -- `permutation::inverted` meets its contract: each entry passed has its place stored. Assumes nothing.
-use mathlib.Core.Path.{_≡_, sym, ap}
-use Prim.Native.Nat.{ℕ, _≤_, _-_}
+use Prim.Native.Nat.{_≤_, _-_}
 use native.Mathlib.Omega.{arith}
-use lib.ListN.{getD, set}
-use mathlib.Core.List.{List}
 use Rattle.arrangements.specs.Permutation.{inverse}
 use Rattle.arrangements.proofs.Group.{inverse-long}
-use Rattle.permutation.specs.Record.{capacity, wordOf}
+use Rattle.permutation.specs.Record.{wordOf}
 use Rattle.permutation.proofs.Taken.{word-at, holds-below}
 use Rattle.permutation.proofs.Filled.{Inverted, invert-none, invert-more, inverted-all, filled-record}
 use Rattle.permutation.proofs.inverted.Statement.{statement}
@@ -15,13 +12,13 @@ use Rattle.permutation.proofs.inverted.Reads as reads
 use Rattle.permutation.proofs.inverted.Lts as lts
 
 abbrev Inv-loop : tie.InvT-loop
-Inv-loop p n out₀ i₀ out i = (i ≤ n) × Inverted capacity (wordOf p) n i out
+Inv-loop p n out₀ i₀ out i = (i ≤ n) × Inverted (wordOf p) n i out
 
 abbrev μ-loop : tie.MeasureT-loop
 μ-loop p n out₀ i₀ out i = n - i
 
 loop-holds : tie.Need-loop-holds Inv-loop μ-loop
-loop-holds c = (omega arith, invert-none capacity (wordOf (c .args .t1)) (c .args .t1 .len))
+loop-holds c = (omega arith, invert-none (wordOf (c .args .t1)) (c .args .t1 .len))
 
 mul-x : tie.Need-mul-x Inv-loop μ-loop
 mul-x c = omega (arith, c .before .before .pre .short)
@@ -52,7 +49,7 @@ loop-again c =
     let h = c .before .loop-test .taken in
     (
       omega arith,
-      rw (word-at (s .args .t1) (l .i) h) at (invert-more capacity (wordOf (s .args .t1)) (s .args .t1 .len) (l .i) (l .out) (s .pre .permutation) (s .pre .short) h (l .inv .1)),
+      rw (word-at (s .args .t1) (l .i) h) at (invert-more (wordOf (s .args .t1)) (s .args .t1 .len) (l .i) (l .out) (s .pre .permutation) (s .pre .short) h (l .inv .1)),
     )
 
 returns : tie.Need-returns Inv-loop μ-loop
@@ -60,7 +57,7 @@ returns c =
     let s = c .before .before in
     let l = c .before .loop in
     filled-record (inverse (wordOf (s .args .t1))) (l .out) (s .args .t1 .len) (s .args .t1 .len)
-    (inverted-all capacity (wordOf (s .args .t1)) (s .args .t1 .len) (l .i) (l .out) (s .pre .permutation) (c .loop-test .left) (l .inv .1)) (omega arith)
+    (inverted-all (wordOf (s .args .t1)) (s .args .t1 .len) (l .i) (l .out) (s .pre .permutation) (c .loop-test .left) (l .inv .1)) (omega arith)
     (inverse-long (s .args .t1 .len) (wordOf (s .args .t1)) (s .pre .permutation)) (s .pre .short)
 
 pub inverted-spec : {M : Type 1} → statement M
