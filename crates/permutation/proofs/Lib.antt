@@ -2,3 +2,4 @@ pub mod Seen
 pub mod Taken
 pub mod Filled
 pub mod Arranging
+pub mod Counting

@@ -1,6 +1,8 @@
 // Permutations of up to twenty entries: image, inverse, composition, sign, rank, unrank and successor (document 01, "Permutations").
 ghost use mathlib.Core.Path.{_≡_};
-ghost use Prim.Native.Nat.{_≤_};
+ghost use Prim.Native.Nat.{_≤_, _<_};
+ghost use lib.Seq.{slice};
+ghost use Rattle.words.specs.Inversions.{smallerIn, inversions as inversionsOf};
 ghost use Rattle.answers.specs.Says.{answerSays};
 ghost use Rattle.arrangements.specs.Permutation.{isPermutation, compose as composeOf, inverse as inverseOf};
 ghost use Rattle.permutation.specs.Record.{capacity, wordOf, recordOf, Holds, Agree, verdictSays, signsSays, refusal, giving, Arranges};
@@ -182,4 +184,50 @@ pub fn compose(p: Permutation, q: Permutation) -> Arranged
         return refused(Refusal::NotAPermutation);
     }
     given(composed(p, q))
+}
+
+// How many entries from place `from` up to place `to` are smaller than x.
+fn smaller(entries: [u64; CAPACITY], from: u64, to: u64, x: u64) -> u64
+    requires { ⌜ (from ≤ to) × (to ≤ capacity) ⌝ }
+    ensures { λ r. ⌜ r ≡ smallerIn x (slice from to entries) ⌝ }
+{
+    let mut count = 0u64;
+    let mut i = from;
+    while i < to {
+        if entries[i as usize] < x {
+            count += 1;
+        }
+        i += 1;
+    }
+    count
+}
+
+// The number of pairs of places with the larger entry on the left.
+fn inversions(p: Permutation) -> u64
+    requires { ⌜ p .len ≤ capacity ⌝ }
+    ensures { λ r. ⌜ r ≡ inversionsOf (wordOf p) ⌝ }
+{
+    let n = p.len;
+    let entries = p.entries;
+    let mut sum = 0u64;
+    let mut i = 0u64;
+    while i < n {
+        let x = entries[i as usize];
+        sum += smaller(entries, i + 1, n, x);
+        i += 1;
+    }
+    sum
+}
+
+// The sign, which is the parity of the inversions: 1 and 10 of the record.
+pub fn sign(p: Permutation) -> Signs
+    ensures { λ r. ⌜ signsSays r ≡ signSays p ⌝ }
+{
+    match checked(p) {
+        Verdict::Refused(e) => Signs::Refused(e),
+        Verdict::Given => {
+            let s = answers::from_parity(inversions(p));
+            Signs::Is(s)
+        }
+    }
 }
