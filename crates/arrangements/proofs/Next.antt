@@ -2,11 +2,13 @@
 --   next-is-later, nothing-between    the permutation of the next rank is later, and nothing lies between
 --   rises-on, rising-is-last    there is no next one where all entries rise
 --   Falls n w i k    w rises below place k, and i is the lowest place there with an entry greater than that at k
+--   found-falls    the places that the search for them finds
+--   step-at, step-long, source-below    the entries of the step
 --   step-has-room, step-is-next    then there is a next one, and the step at these places is it
 use mathlib.Core.Path.{_≡_, refl, sym, ap, ap₂, subst, _∙_}
 use mathlib.Core.Bool.{Bool, true, false}
 use mathlib.Core.List.{List}
-use Prim.Native.Nat.{ℕ, suc, _*_, _-_, _≤_, _<_}
+use Prim.Native.Nat.{ℕ, suc, _+_, _*_, _-_, _≤_, _<_}
 use native.Mathlib.Nat.{add-sub-of-le}
 use native.Mathlib.Decide.{decLt, ℕ-discrete}
 use native.Mathlib.Omega.{arith}
@@ -20,10 +22,10 @@ use Rattle.words.specs.Factorial.{factorial}
 use Rattle.words.specs.Inversions.{smallerIn}
 use Rattle.arrangements.specs.Permutation.{Permutation, identity}
 use Rattle.arrangements.specs.Rank.{digit, rankBelow, rankOf, unrankOf}
-use Rattle.arrangements.specs.Step.{turn, exchange, source, step}
+use Rattle.arrangements.specs.Step.{turn, exchange, source, step, Rises, FirstFall, FirstGreater}
 use Rattle.arrangements.proofs.Places.{ByPlaces, map-at, by-places, from-places}
 use Rattle.arrangements.proofs.Smaller.{one-if, smaller-one-more, smaller-split}
-use Rattle.arrangements.proofs.Rank.{Rises, falling-rank, rising-rank, same-left, same-weight-above, digit-with-itself, rank-rises}
+use Rattle.arrangements.proofs.Rank.{falling-rank, rising-rank, same-left, same-weight-above, digit-with-itself, rank-rises}
 use Rattle.arrangements.proofs.Unrank.{unrank-is-a-permutation, rank-of-unrank, unrank-of-rank}
 use Rattle.arrangements.proofs.Counted.{rank-is-below, earlier-of-rank}
 use Rattle.arrangements.proofs.Group.{identity-long, identity-at}
@@ -95,13 +97,13 @@ exchange-below n i k j a b c = go (eqb j i) (eqb j k)
 -- ---- the step
 
 -- one place more that rises
-pub rises-on : (w : List ℕ) (k : ℕ) → Rises w (suc k) → getD w k 0 < getD w (suc k) 0 → Rises w (suc (suc k))
-rises-on w k h l a b m c = go (ℕ-discrete b (suc k)) (ℕ-discrete a k)
+pub rises-on : (w : List ℕ) (k : ℕ) → 0 < k → Rises w k → getD w (k - 1) 0 < getD w k 0 → Rises w (k + 1)
+rises-on w k z h l a b m c = go (ℕ-discrete b k) (ℕ-discrete a (k - 1))
   where
-    go : Dec (b ≡ suc k) → Dec (a ≡ k) → getD w a 0 < getD w b 0
+    go : Dec (b ≡ k) → Dec (a ≡ k - 1) → getD w a 0 < getD w b 0
     go (no e) d = h a b m (omega arith)
     go (yes e) (yes q) = omega (arith, ap (λ (x : ℕ). getD w x 0) e, ap (λ (x : ℕ). getD w x 0) q)
-    go (yes e) (no q) = omega (arith, ap (λ (x : ℕ). getD w x 0) e, h a k (omega arith) (omega arith))
+    go (yes e) (no q) = omega (arith, ap (λ (x : ℕ). getD w x 0) e, h a (k - 1) (omega arith) (omega arith))
 
 -- where all entries rise there is none
 pub rising-is-last : (n : ℕ) (w : List ℕ) → length w ≡ n → Rises w n → suc (rankOf w) ≡ factorial n
@@ -115,15 +117,48 @@ pub record Falls (n : ℕ) (w : List ℕ) (i k : ℕ) : Type 0 where
   pub greater : getD w k 0 < getD w i 0
   pub lowest : (j : ℕ) → j < i → getD w j 0 < getD w k 0
 
+-- the places that a search finds
+pub found-falls : (n : ℕ) (w : List ℕ) → Permutation n w → (i k : ℕ) → FirstFall n w k → k < n → FirstGreater w k i → Falls n w i k
+found-falls n w p i k f l g =
+    record {
+      within = l;
+      rises = f .rises;
+      found = found;
+      greater = g .greater found;
+      lowest = λ j h. lowest j h (ℕ-discrete (getD w j 0) (getD w k 0));
+    }
+  where
+    found : i < k
+    found = go (decLt i k)
+      where
+        go : Dec (i < k) → i < k
+        go (yes h) = h
+        go (no h) = absurd (omega (arith, f .falls l .0, f .falls l .1, g .lower (k - 1) (omega (arith, f .falls l .0))))
+
+    lowest : (j : ℕ) → j < i → Dec (getD w j 0 ≡ getD w k 0) → getD w j 0 < getD w k 0
+    lowest j h (yes e) = absurd (omega (arith, found, by-places n w p .apart j k (omega (arith, found)) l e))
+    lowest j h (no e) = omega (arith, g .lower j h)
+
+pub step-at : (i k : ℕ) (w : List ℕ) (j : ℕ) → j < length w → getD (step i k w) j 0 ≡ getD w (source i k j) 0
+step-at i k w j h =
+    map-at (λ j. getD w (source i k j) 0) (identity (length w)) j (omega (arith, identity-long (length w)))
+    ∙ ap (λ (j : ℕ). getD w (source i k j) 0) (identity-at (length w) j h)
+
+pub step-long : (i k : ℕ) (w : List ℕ) → length (step i k w) ≡ length w
+step-long i k w = length-map (identity (length w)) (λ j. getD w (source i k j) 0) ∙ identity-long (length w)
+
+-- the step leads out of no place
+pub source-below : (n i k j : ℕ) → i < k → k < n → j < n → source i k j < n
+unfolding source
+source-below n i k j h l m = exchange-below n i k (turn k j) (omega arith) l (turn-below n k j (omega arith) m)
+
 module _ (n : ℕ) (w : List ℕ) (p : Permutation n w) (i k : ℕ) (f : Falls n w i k) where
   v : List ℕ
   v = step i k w
 
   at : (j : ℕ) → j < n → getD v j 0 ≡ getD w (source i k j) 0
   unfolding v
-  at j h =
-      map-at (λ j. getD w (source i k j) 0) (identity (length w)) j (omega (arith, identity-long (length w), p .long))
-      ∙ ap (λ (j : ℕ). getD w (source i k j) 0) (identity-at (length w) j (omega (arith, p .long)))
+  at j h = step-at i k w j (omega (arith, p .long))
 
   at-turned : (j : ℕ) → j < k → getD v j 0 ≡ getD w (exchange i k (k - 1 - j)) 0
   unfolding source
@@ -141,7 +176,7 @@ module _ (n : ℕ) (w : List ℕ) (p : Permutation n w) (i k : ℕ) (f : Falls n
 
   long : length v ≡ n
   unfolding v
-  long = length-map (identity (length w)) (λ j. getD w (source i k j) 0) ∙ identity-long (length w) ∙ p .long
+  long = step-long i k w ∙ p .long
 
   step-is-a-permutation : Permutation n v
   unfolding source
@@ -157,7 +192,7 @@ module _ (n : ℕ) (w : List ℕ) (p : Permutation n w) (i k : ℕ) (f : Falls n
       w′ = by-places n w p
 
       inside : (j : ℕ) → j < n → source i k j < n
-      inside j h = exchange-below n i k (turn k j) (omega (arith, f .found, f .within)) (f .within) (turn-below n k j (omega (arith, f .within)) h)
+      inside j h = source-below n i k j (f .found) (f .within) h
 
       back : (a b : ℕ) → source i k a ≡ source i k b → a ≡ b
       back a b e =

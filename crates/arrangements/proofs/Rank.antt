@@ -1,7 +1,7 @@
 -- The rank of a permutation: it is below the factorial, and grows with the order. Assumes nothing.
 --   factorial-next    (n + 1)! is n times n!, and n! more
 --   rank-below-factorial    k places weigh less than k!
---   Rises, falling-rank, rising-rank    places whose entries fall weigh nothing, and places whose entries rise weigh k! - 1
+--   falling-rank, rising-rank    places whose entries fall weigh nothing, and places whose entries rise weigh k! - 1
 --   rank-snoc    what one more entry at the end adds
 --   rank-map    a map that keeps the order keeps the rank
 --   same-left, same-weight-above    where two permutations agree from place k up, these places weigh the same
@@ -23,6 +23,7 @@ use Rattle.words.proofs.Factorial.{factorial-none, factorial-positive}
 use Rattle.words.proofs.Inversions.{smaller-append}
 use Rattle.arrangements.specs.Permutation.{Permutation}
 use Rattle.arrangements.specs.Rank.{digit, rankBelow, rankOf}
+use Rattle.arrangements.specs.Step.{Rises}
 use Rattle.arrangements.proofs.Places.{map-at, by-places}
 use Rattle.arrangements.proofs.Smaller.{one-if, smaller-one-more, smaller-monotone, smaller-at-most, smaller-map, smaller-split, smaller-in-permutation}
 
@@ -42,10 +43,6 @@ unfolding rankBelow
 rank-below-factorial p zero = factorial-positive 0
 rank-below-factorial p (suc k) =
     omega (arith, rank-below-factorial p k, factorial-next k, mul-le-mul-right (factorial k) (digit-at-most p k))
-
--- the entries below place k rise
-abbrev pub Rises : List ℕ → ℕ → Type 0
-Rises p k = (i j : ℕ) → i < j → j < k → getD p i 0 < getD p j 0
 
 -- the places below k weigh nothing if their entries fall, and as much as they can if they rise
 pub falling-rank : (p : List ℕ) (k : ℕ) → k ≤ length p → ((i j : ℕ) → i < j → j < k → getD p j 0 < getD p i 0) → rankBelow p k ≡ 0

@@ -1,12 +1,14 @@
 -- The permutation of a rank: unranking inverts ranking both ways. Assumes nothing.
---   lastly d u    the permutation whose last entry is d, and whose others stand as those of u do; `parted` says that every permutation is made so
+--   lastly-at, lastly-end, lastly-long    what the list with the last entry d holds
+--   lastly-is-a-permutation, lastly-rank, parted    a permutation by its last entry: every one is made so
+--   unrank-next, quotient-next    one entry more, from the digits of the rank, the lowest first
 --   unrank-is-a-permutation, rank-of-unrank, unrank-of-rank    unranking below n!
 use mathlib.Core.Path.{_≡_, refl, sym, ap, ap₂, subst, _∙_}
 use mathlib.Core.Logic.{_⊎_, inl, inr}
 use mathlib.Core.Bool.{Bool, true, false}
 use mathlib.Core.List.{List, [], _∷_, _++_, map}
 use Prim.Native.Nat.{ℕ, zero, suc, _+_, _*_, _-_, _/_, _%_, _≤_, _<_}
-use native.Mathlib.Nat.{mod-lt, mod-eq-of-lt, div-eq-of-lt, div-add-mod', div-lt-iff-lt-mul, add-mul-div-right, add-mul-mod-self-right, eq-or-lt-of-le, suc-ne-zero}
+use native.Mathlib.Nat.{mod-lt, mod-eq-of-lt, div-eq-of-lt, div-add-mod', div-lt-iff-lt-mul, add-mul-div-right, add-mul-mod-self-right, eq-or-lt-of-le, suc-ne-zero, mul-le-mul-right, mul-comm, mod-mod, div-div-eq-div-mul}
 use native.Mathlib.Numerals.{add-one}
 use native.Mathlib.Omega.{arith}
 use borrow.Author.Tests.{lt-ltb, le-ltb, ltb-true, ltb-false}
@@ -17,7 +19,7 @@ use Rattle.words.specs.Pick.{pick}
 use Rattle.words.specs.Factorial.{factorial}
 use Rattle.words.proofs.Factorial.{factorial-positive}
 use Rattle.arrangements.specs.Permutation.{Permutation}
-use Rattle.arrangements.specs.Rank.{rankBelow, rankOf, raise, unrankOf}
+use Rattle.arrangements.specs.Rank.{rankBelow, rankOf, raise, lastly, unrankOf}
 use Rattle.arrangements.proofs.Places.{ByPlaces, map-at, by-places, from-places}
 use Rattle.arrangements.proofs.Smaller.{smaller-map, smaller-in-permutation}
 use Rattle.arrangements.proofs.Rank.{rank-below-factorial, rank-snoc, rank-map}
@@ -90,25 +92,27 @@ lower-below d x n l h apart = go (ltb x d) refl
 
 -- ---- a permutation by its last entry
 
--- the permutation of n + 1 entries whose last one is d, and whose others stand as those of u do
-abbrev lastly : ℕ → List ℕ → List ℕ
-lastly d u = map (raise d) u ++ d ∷ []
+pub lastly-at : (d : ℕ) (u : List ℕ) (i : ℕ) → i < length u → getD (lastly d u) i 0 ≡ raise d (getD u i 0)
+lastly-at d u i h = List·getD-append (map (raise d) u) (d ∷ []) 0 i (omega (arith, length-map u (raise d))) ∙ map-at (raise d) u i h
+
+pub lastly-end : (d : ℕ) (u : List ℕ) (i : ℕ) → i ≡ length u → getD (lastly d u) i 0 ≡ d
+lastly-end d u i e = getD-at (map (raise d) u) d [] 0 i (length-map u (raise d) ∙ sym e)
+
+pub lastly-long : (d : ℕ) (u : List ℕ) → length (lastly d u) ≡ suc (length u)
+lastly-long d u = length-append (map (raise d) u) (d ∷ []) ∙ add-one (length (map (raise d) u)) ∙ ap suc (length-map u (raise d))
 
 module _ (n d : ℕ) (u : List ℕ) (l : d ≤ n) (p : Permutation n u) where
-  raised-long : length (map (raise d) u) ≡ n
-  raised-long = length-map u (raise d) ∙ p .long
-
   at-left : (i : ℕ) → i < n → getD (lastly d u) i 0 ≡ raise d (getD u i 0)
-  at-left i h = List·getD-append (map (raise d) u) (d ∷ []) 0 i (omega (arith, raised-long)) ∙ map-at (raise d) u i (omega (arith, p .long))
+  at-left i h = lastly-at d u i (omega (arith, p .long))
 
   at-last : (i : ℕ) → i ≡ n → getD (lastly d u) i 0 ≡ d
-  at-last i e = getD-at (map (raise d) u) d [] 0 i (raised-long ∙ sym e)
+  at-last i e = lastly-end d u i (e ∙ sym (p .long))
 
   lastly-is-a-permutation : Permutation (suc n) (lastly d u)
   lastly-is-a-permutation =
       from-places (suc n) (lastly d u)
       (record {
-        long = length-append (map (raise d) u) (d ∷ []) ∙ add-one (length (map (raise d) u)) ∙ ap suc raised-long;
+        long = lastly-long d u ∙ ap suc (p .long);
         below = λ i h. below i (eq-or-lt-of-le h);
         apart = λ i j h k. apart i j (eq-or-lt-of-le h) (eq-or-lt-of-le k);
       })
@@ -129,7 +133,7 @@ module _ (n d : ℕ) (u : List ℕ) (l : d ≤ n) (p : Permutation n u) where
   lastly-rank =
       rank-snoc (map (raise d) u) d
       ∙ ap₂ (λ (r m : ℕ). r + m) (rank-map (raise d) (raise-keeps-order d) u)
-      (ap₂ (λ (s m : ℕ). s * factorial m) (smaller-map (raise d) d d (raise-over d) u ∙ smaller-in-permutation n u p d l) raised-long)
+      (ap₂ (λ (s m : ℕ). s * factorial m) (smaller-map (raise d) d d (raise-over d) u ∙ smaller-in-permutation n u p d l) (length-map u (raise d) ∙ p .long))
 
 -- every permutation of n + 1 entries is made so
 record Parted (n : ℕ) (p : List ℕ) : Type 0 where
@@ -231,3 +235,39 @@ unrank-of-rank (suc n) p h = go (parted n p h) (unrank-of-rank n)
         rest =
             ap (unrankOf n) (ap (λ (r : ℕ). r % factorial n) weight ∙ add-mul-mod-self-right (rankOf (a .rest)) (a .last) (factorial n) ∙ mod-eq-of-lt fits)
             ∙ ih (a .rest) (a .permutation)
+
+-- ---- digit by digit, the lowest first
+
+-- what is left of r below k times m is its last digit and what is left below m
+mod-parts : (r m k : ℕ) → 0 < m → 0 < k → r % (k * m) ≡ r % m + r / m % k * m
+mod-parts r m k a b =
+    ap (λ (x : ℕ). x % (k * m)) whole ∙ add-mul-mod-self-right (r % m + r / m % k * m) (r / m / k) (k * m) ∙ mod-eq-of-lt small
+  where
+    whole : r ≡ r % m + r / m % k * m + r / m / k * (k * m)
+    whole = omega (arith, div-add-mod' r m, ap (λ (x : ℕ). x * m) (div-add-mod' (r / m) k))
+
+    small : r % m + r / m % k * m < k * m
+    small = omega (arith, mod-lt r a, mul-le-mul-right m (mod-lt (r / m) b))
+
+pub unrank-next : (n r : ℕ) → unrankOf (suc n) (r % factorial (suc n)) ≡ lastly (r / factorial n % suc n) (unrankOf n (r % factorial n))
+unfolding unrankOf factorial
+unrank-next n r = ap₂ lastly digit (ap (unrankOf n) rest)
+  where
+    m : ℕ
+    m = factorial n
+
+    parts : r % (suc n * m) ≡ r % m + r / m % suc n * m
+    parts = mod-parts r m (suc n) (factorial-positive n) (omega arith)
+
+    digit : r % (suc n * m) / m ≡ r / m % suc n
+    digit =
+        ap (λ (x : ℕ). x / m) parts ∙ add-mul-div-right (r % m) (r / m % suc n) (factorial-positive n)
+        ∙ ap (λ (x : ℕ). x + r / m % suc n) (div-eq-of-lt (mod-lt r (factorial-positive n))) ∙ omega arith
+
+    rest : r % (suc n * m) % m ≡ r % m
+    rest = ap (λ (x : ℕ). x % m) parts ∙ add-mul-mod-self-right (r % m) (r / m % suc n) m ∙ mod-mod r m
+
+-- the number whose digits are left
+pub quotient-next : (n r : ℕ) → r / factorial n / suc n ≡ r / factorial (suc n)
+unfolding factorial
+quotient-next n r = div-div-eq-div-mul r (factorial n) (suc n) ∙ ap (λ (m : ℕ). r / m) (mul-comm (factorial n) (suc n))

@@ -1,6 +1,7 @@
 -- The rank of a permutation in the factorial number system, and the permutation of a rank (01, "Permutations"; Knuth 7.2.1.2). Assumes nothing.
 --   digit p j    d_j: how many entries left of place j are smaller than the one there
 --   rankOf p    the sum of d_j times j! over the places j of p
+--   lastly d u    the permutation of one entry more than u whose last entry is d
 --   unrankOf n r    the permutation of n entries whose rank is r, by its last entry: that is r / (n-1)!, and what stands left of it has the rank r % (n-1)!
 -- That the rank is how many permutations stand earlier is the law `rank-is-how-many-earlier`.
 use mathlib.Core.List.{List, [], _∷_, _++_, map}
@@ -26,6 +27,10 @@ rankOf p = rankBelow p (length p)
 abbrev pub raise : ℕ → ℕ → ℕ
 raise d x = pick (ltb x d) x (suc x)
 
+-- the last entry is d, and the others stand as those of u do
+abbrev pub lastly : ℕ → List ℕ → List ℕ
+lastly d u = map (raise d) u ++ d ∷ []
+
 unfoldable pub unrankOf : ℕ → ℕ → List ℕ
 unrankOf zero r = []
-unrankOf (suc n) r = map (raise (r / factorial n)) (unrankOf n (r % factorial n)) ++ r / factorial n ∷ []
+unrankOf (suc n) r = lastly (r / factorial n) (unrankOf n (r % factorial n))

@@ -1,10 +1,12 @@
 // Permutations of up to twenty entries: image, inverse, composition, sign, rank, unrank and successor (document 01, "Permutations").
 ghost use mathlib.Core.Path.{_≡_};
-ghost use Prim.Native.Nat.{_≤_, _<_};
+ghost use Prim.Native.Nat.{_%_, _≤_, _<_};
 ghost use lib.Seq.{slice};
+ghost use Rattle.words.specs.Factorial.{factorial as factorialOf};
 ghost use Rattle.words.specs.Inversions.{smallerIn, inversions as inversionsOf};
 ghost use Rattle.answers.specs.Says.{answerSays};
 ghost use Rattle.arrangements.specs.Permutation.{isPermutation, compose as composeOf, inverse as inverseOf};
+ghost use Rattle.arrangements.specs.Rank.{rankOf, raise, lastly, unrankOf};
 ghost use Rattle.permutation.specs.Record.{capacity, wordOf, recordOf, Holds, Agree, verdictSays, signsSays, refusal, giving, Arranges};
 ghost use Rattle.permutation.specs.Rules.{taken, imageSays, inverseSays, composeSays, signSays, rankSays, unrankSays, successorSays};
 use answers::Answer;
@@ -230,4 +232,97 @@ pub fn sign(p: Permutation) -> Signs
             Signs::Is(s)
         }
     }
+}
+
+// The sum of d_j times j!, where d_j counts the smaller entries left of place j.
+fn weight(p: Permutation) -> u64
+    requires { ⌜ p .len ≤ capacity ⌝ }
+    ensures { λ r. ⌜ r ≡ rankOf (wordOf p) ⌝ }
+{
+    let n = p.len;
+    let entries = p.entries;
+    let table = count::factorials();
+    let mut sum = 0u64;
+    let mut j = 0u64;
+    while j < n {
+        let x = entries[j as usize];
+        let f = table[j as usize];
+        sum += smaller(entries, 0, j, x) * f;
+        j += 1;
+    }
+    sum
+}
+
+// The rank among the permutations of its length, in colex order: 1 and 10 of the record.
+pub fn rank(p: Permutation) -> Answer
+    ensures { λ r. ⌜ answerSays r ≡ rankSays p ⌝ }
+{
+    match checked(p) {
+        Verdict::Refused(e) => Answer::Refused(e),
+        Verdict::Given => Answer::Is(weight(p)),
+    }
+}
+
+// x, raised by one from d up: so nothing is d.
+fn raised(d: u64, x: u64) -> u64
+    requires { ⌜ x < capacity ⌝ }
+    ensures { λ r. ⌜ r ≡ raise d x ⌝ }
+{
+    if x < d {
+        return x;
+    }
+    x + 1
+}
+
+// The permutation of one entry more whose last entry is d: the others from d up are raised by one to make room for it.
+fn with_last(p: Permutation, d: u64) -> Permutation
+    requires { ⌜ Holds p × (p .len < capacity) ⌝ }
+    ensures { λ r. ⌜ r ≡ recordOf (lastly d (wordOf p)) ⌝ }
+{
+    let n = p.len;
+    let mut out = [0u64; CAPACITY];
+    let mut i = 0u64;
+    while i < n {
+        let x = p.entries[i as usize];
+        out[i as usize] = raised(d, x);
+        i += 1;
+    }
+    out[n as usize] = d;
+    Permutation {
+        entries: out,
+        len: n + 1,
+    }
+}
+
+// The permutation of n entries of rank r, from the digits of r in the factorial number system, the lowest first.
+fn unranked(n: u64, r: u64) -> Permutation
+    requires { ⌜ n ≤ capacity ⌝ }
+    ensures { λ p. ⌜ p ≡ recordOf (unrankOf n (r % factorialOf n)) ⌝ }
+{
+    let mut p = Permutation {
+        entries: [0u64; CAPACITY],
+        len: 0,
+    };
+    let mut rest = r;
+    let mut j = 0u64;
+    while j < n {
+        let k = j + 1;
+        p = with_last(p, rest % k);
+        rest = rest / k;
+        j = k;
+    }
+    p
+}
+
+// The permutation of n entries of rank r: 1 for n, 3 if there are not so many.
+pub fn unrank(n: u64, r: u64) -> Arranged
+    ensures { λ a. ⌜ Arranges (unrankSays n r) a ⌝ }
+{
+    if n > CAPACITY as u64 {
+        return refused(Refusal::TooWide);
+    }
+    if r >= count::factorial(n) {
+        return refused(Refusal::NoSuchRank);
+    }
+    given(unranked(n, r))
 }

@@ -83,10 +83,10 @@ composed-requires c κs =
     let s = c .before .before .before .before .before .before .before in
     record {
       left =
-        tested-holds (s .args .p) (search needs) (c .before .before .before .before .before .before .if1 .left)
-        (sym (c .before .before .before .is-permutation .ensures) ∙ not-false _ (c .before .before .if4 .left));
+          tested-holds (s .args .p) (search needs) (c .before .before .before .before .before .before .if1 .left)
+          (sym (c .before .before .before .is-permutation .ensures) ∙ not-false _ (c .before .before .if4 .left));
       right =
-        tested-holds (s .args .q) (search needs) (c .before .before .before .before .before .if2 .left) (sym (c .before .is-permutation2 .ensures) ∙ not-false _ (c .if5 .left));
+          tested-holds (s .args .q) (search needs) (c .before .before .before .before .before .if2 .left) (sym (c .before .is-permutation2 .ensures) ∙ not-false _ (c .if5 .left));
       lengths = c .before .before .before .before .if3 .left;
     }
 

@@ -62,11 +62,10 @@ loop-less c = omega arith
 loop-again : tie.Need-loop-again Inv-loop μ-loop
 loop-again c =
     let s = c .before .before .before .before in
-    let l = c .before .before .before .loop in
-    (
+    let l = c .before .before .before .loop in (
       omega arith,
       fill-more (at (compose (wordOf (s .args .t1)) (wordOf (s .args .t2)))) zeros (l .out) (l .i) _ (omega (arith, s .pre .left .short))
-      (compose-entry (s .args .t1) (s .args .t2) (s .pre .left) (s .pre .right) (s .pre .lengths) (l .i) (c .before .before .loop-test .taken)) (l .inv .1),
+          (compose-entry (s .args .t1) (s .args .t2) (s .pre .left) (s .pre .right) (s .pre .lengths) (l .i) (c .before .before .loop-test .taken)) (l .inv .1),
     )
 
 returns : tie.Need-returns Inv-loop μ-loop

@@ -51,8 +51,7 @@ loop-less c = omega arith
 loop-again : tie.Need-loop-again Inv-loop μ-loop
 loop-again c =
     let p = c .before .before .before .before .args .p in
-    let l = c .before .before .loop in
-    (
+    let l = c .before .before .loop in (
       omega arith,
       omega (arith, c .smaller .ensures, smaller-few (p .entries) (l .i + 1) (p .len) (getD (p .entries) (l .i) 0) (omega (arith, l .inv .2))),
       l .inv .2,

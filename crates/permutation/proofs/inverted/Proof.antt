@@ -46,8 +46,7 @@ loop-again : tie.Need-loop-again Inv-loop μ-loop
 loop-again c =
     let s = c .before .before .before in
     let l = c .before .before .loop in
-    let h = c .before .loop-test .taken in
-    (
+    let h = c .before .loop-test .taken in (
       omega arith,
       rw (word-at (s .args .t1) (l .i) h) at (invert-more (wordOf (s .args .t1)) (s .args .t1 .len) (l .i) (l .out) (s .pre .permutation) (s .pre .short) h (l .inv .1)),
     )
