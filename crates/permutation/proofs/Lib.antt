@@ -4,3 +4,4 @@ pub mod Filled
 pub mod Arranging
 pub mod Counting
 pub mod Making
+pub mod Searching

@@ -7,6 +7,7 @@ ghost use Rattle.words.specs.Inversions.{smallerIn, inversions as inversionsOf}
 ghost use Rattle.answers.specs.Says.{answerSays};
 ghost use Rattle.arrangements.specs.Permutation.{isPermutation, compose as composeOf, inverse as inverseOf};
 ghost use Rattle.arrangements.specs.Rank.{rankOf, raise, lastly, unrankOf};
+ghost use Rattle.arrangements.specs.Step.{FirstFall, FirstGreater, turn, exchange, step};
 ghost use Rattle.permutation.specs.Record.{capacity, wordOf, recordOf, Holds, Agree, verdictSays, signsSays, refusal, giving, Arranges};
 ghost use Rattle.permutation.specs.Rules.{taken, imageSays, inverseSays, composeSays, signSays, rankSays, unrankSays, successorSays};
 use answers::Answer;
@@ -325,4 +326,97 @@ pub fn unrank(n: u64, r: u64) -> Arranged
         return refused(Refusal::NoSuchRank);
     }
     given(unranked(n, r))
+}
+
+// The lowest place whose entry is smaller than the one before it; the length if all entries rise.
+fn first_fall(p: Permutation) -> u64
+    requires { ⌜ Holds p ⌝ }
+    ensures { λ k. ⌜ FirstFall (p .len) (wordOf p) k ⌝ }
+{
+    let n = p.len;
+    let mut k = 1u64;
+    while k < n {
+        let before = k - 1;
+        if p.entries[k as usize] < p.entries[before as usize] {
+            return k;
+        }
+        k += 1;
+    }
+    n
+}
+
+// The lowest place below k whose entry is greater than that at k; k if there is none.
+fn first_greater(p: Permutation, k: u64) -> u64
+    requires { ⌜ Holds p × (k < p .len) ⌝ }
+    ensures { λ i. ⌜ FirstGreater (wordOf p) k i ⌝ }
+{
+    let x = p.entries[k as usize];
+    let mut i = 0u64;
+    while i < k {
+        if x < p.entries[i as usize] {
+            return i;
+        }
+        i += 1;
+    }
+    k
+}
+
+// Place j, if the places below k are turned round.
+fn turned(k: u64, j: u64) -> u64
+    ensures { λ r. ⌜ r ≡ turn k j ⌝ }
+{
+    if j < k {
+        return k - 1 - j;
+    }
+    j
+}
+
+// Place j, if the places i and k change places.
+fn exchanged(i: u64, k: u64, j: u64) -> u64
+    ensures { λ r. ⌜ r ≡ exchange i k j ⌝ }
+{
+    if j == i {
+        return k;
+    }
+    if j == k {
+        return i;
+    }
+    j
+}
+
+// The entries at the places i and k exchanged, and then those below place k turned round.
+fn stepped(p: Permutation, i: u64, k: u64) -> Permutation
+    requires { ⌜ Holds p × (i < k) × (k < p .len) ⌝ }
+    ensures { λ r. ⌜ r ≡ recordOf (step i k (wordOf p)) ⌝ }
+{
+    let n = p.len;
+    let mut out = [0u64; CAPACITY];
+    let mut j = 0u64;
+    while j < n {
+        let from = exchanged(i, k, turned(k, j));
+        out[j as usize] = p.entries[from as usize];
+        j += 1;
+    }
+    Permutation {
+        entries: out,
+        len: n,
+    }
+}
+
+// The next permutation in colex order: 1 and 10 of the record, 4 if there is none.
+pub fn successor(p: Permutation) -> Arranged
+    ensures { λ r. ⌜ Arranges (successorSays p) r ⌝ }
+{
+    match checked(p) {
+        Verdict::Refused(e) => refused(e),
+        Verdict::Given => {
+            let n = p.len;
+            let k = first_fall(p);
+            if k == n {
+                return refused(Refusal::Last);
+            }
+            let i = first_greater(p, k);
+            given(stepped(p, i, k))
+        }
+    }
 }

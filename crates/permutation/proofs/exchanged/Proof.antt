@@ -1,0 +1,18 @@
+-- `permutation::exchanged` meets its contract: each return by the tests that led there. Assumes nothing.
+use borrow.Author.Tests.{eq-eqb, ne-eqb}
+use Rattle.permutation.proofs.exchanged.Statement.{statement}
+use Rattle.permutation.proofs.exchanged.Tie as tie
+use Rattle.permutation.proofs.exchanged.Reads as reads
+use Rattle.permutation.proofs.exchanged.Lts as lts
+
+returns : tie.Need-returns
+returns c = simp (eq-eqb _ _ (c .if1 .taken))
+
+returns-2 : tie.Need-returns-2
+returns-2 c = simp (ne-eqb _ _ (c .before .if1 .left), eq-eqb _ _ (c .if2 .taken))
+
+returns-3 : tie.Need-returns-3
+returns-3 c = simp (ne-eqb _ _ (c .before .if1 .left), ne-eqb _ _ (c .if2 .left))
+
+pub exchanged-spec : {M : Type 1} → statement M
+exchanged-spec = tie.close (tie.spec returns returns-2 returns-3)
