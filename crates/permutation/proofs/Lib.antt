@@ -3,5 +3,3 @@ pub mod Taken
 pub mod Filled
 pub mod Arranging
 pub mod Counting
-pub mod Making
-pub mod Searching

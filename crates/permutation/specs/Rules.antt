@@ -2,16 +2,14 @@
 -- Assumes nothing.
 --   tooLong n    a length that passes the capacity: 1
 --   taken p    the permutation that a record holds: 1 for its length, 10 if it is no bijection of 0 .. n-1
---   imageSays p i, inverseSays p, composeSays p q, signSays p, rankSays p, unrankSays n r, successorSays p
+--   imageSays p i, inverseSays p, composeSays p q, signSays p
 use mathlib.Core.Bool.{Bool, not}
 use mathlib.Core.List.{List}
-use Prim.Native.Nat.{ℕ, suc}
+use Prim.Native.Nat.{ℕ}
 use lib.Dec.{leb, ltb, eqb}
 use lib.ListN.{getD}
-use Rattle.words.specs.Factorial.{factorial}
 use Rattle.words.specs.Inversions.{inversions}
 use Rattle.arrangements.specs.Permutation.{isPermutation, compose, inverse}
-use Rattle.arrangements.specs.Rank.{rankOf, unrankOf}
 use Rattle.answers.specs.declared.Sign.{Sign}
 use Rattle.answers.specs.Says.{Says, gives, refusedIf, andThen}
 use Rattle.answers.specs.Signs.{signOf}
@@ -45,12 +43,3 @@ composeSays p q =
 
 abbrev pub signSays : Permutation → Says Sign
 signSays p = andThen (taken p) (λ w. gives (signOf (inversions w)))
-
-abbrev pub rankSays : Permutation → Says ℕ
-rankSays p = andThen (taken p) (λ w. gives (rankOf w))
-
-abbrev pub unrankSays : ℕ → ℕ → Says (List ℕ)
-unrankSays n r = refusedIf (tooLong n) 1 (refusedIf (leb (factorial n) r) 3 (gives (unrankOf n r)))
-
-abbrev pub successorSays : Permutation → Says (List ℕ)
-successorSays p = andThen (taken p) (λ w. refusedIf (leb (factorial (p .len)) (suc (rankOf w))) 4 (gives (unrankOf (p .len) (suc (rankOf w)))))

@@ -5,9 +5,6 @@ use borrow.Author.Tests.{lt-ltb, le-ltb}
 use Rattle.permutation.specs.Rules.{taken}
 use Rattle.permutation.proofs.checked.Statement.{statement}
 use Rattle.permutation.proofs.checked.Tie as tie
-use Rattle.permutation.proofs.checked.Reads as reads
-use Rattle.permutation.proofs.checked.Lts as lts
-use Rattle.permutation.proofs.is_permutation.Reads as is-permutation-reads
 
 returns : tie.Need-returns
 unfolding taken

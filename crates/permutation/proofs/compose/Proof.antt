@@ -1,52 +1,38 @@
+-- `permutation::compose` meets its contract: each return by the tests that led there. Assumes nothing.
+use mathlib.Core.Path.{sym, _∙_}
+use borrow.Author.Tests.{lt-ltb, le-ltb, eq-eqb, ne-eqb, not-true, not-false}
+use borrow.Author.Needs.{needs}
 use Rattle.arrangements.specs.Permutation.{compose}
 use Rattle.permutation.specs.Record.{wordOf}
-use mathlib.Core.Path.{sym, _∙_}
 use Rattle.permutation.proofs.Taken.{tested-holds}
-use borrow.Author.Tests.{lt-ltb, le-ltb, eq-eqb, ne-eqb, not-true, not-false}
 use Rattle.permutation.proofs.Arranging.{arranges-refusal, arranges-given}
-use borrow.Author.Needs.{needs}
 use Rattle.permutation.proofs.compose.Statement.{statement}
 use Rattle.permutation.proofs.compose.Tie as tie
-use Rattle.permutation.proofs.compose.Reads as reads
-use Rattle.permutation.proofs.compose.Lts as lts
-use Rattle.permutation.proofs.composed.Reads as composed-reads
-use Rattle.permutation.proofs.given.Reads as given-reads
-use Rattle.permutation.proofs.is_permutation.Reads as is-permutation-reads
-use Rattle.permutation.proofs.refused.Reads as refused-reads
 
--- src/lib.rt:170:9
 refused-requires : tie.Need-refused-requires
 refused-requires c κs = search needs
 
--- src/lib.rt:170:9
 returns : tie.Need-returns
 returns c = arranges-refusal _ _ _ (c .refused .ensures) (simp (lt-ltb _ _ (c .before .if1 .taken)))
 
--- src/lib.rt:173:9
 refused-requires-2 : tie.Need-refused-requires-2
 refused-requires-2 c κs = search needs
 
--- src/lib.rt:173:9
 returns-2 : tie.Need-returns-2
 returns-2 c = arranges-refusal _ _ _ (c .refused2 .ensures) (simp (le-ltb _ _ (c .before .before .if1 .left), lt-ltb _ _ (c .before .if2 .taken)))
 
--- src/lib.rt:176:9
 refused-requires-3 : tie.Need-refused-requires-3
 refused-requires-3 c κs = search needs
 
--- src/lib.rt:176:9
 returns-3 : tie.Need-returns-3
 returns-3 c = arranges-refusal _ _ _ (c .refused3 .ensures) (simp (le-ltb _ _ (c .before .before .before .if1 .left), le-ltb _ _ (c .before .before .if2 .left), ne-eqb _ _ (c .before .if3 .taken)))
 
--- src/lib.rt:178:9
 is-permutation-requires : tie.Need-is-permutation-requires
 is-permutation-requires c κs = search needs
 
--- src/lib.rt:179:9
 refused-requires-4 : tie.Need-refused-requires-4
 refused-requires-4 c κs = search needs
 
--- src/lib.rt:179:9
 returns-4 : tie.Need-returns-4
 returns-4 c =
     arranges-refusal _ _ _ (c .refused4 .ensures)
@@ -57,15 +43,12 @@ returns-4 c =
       sym (c .before .before .is-permutation .ensures) ∙ not-true _ (c .before .if4 .taken),
     ))
 
--- src/lib.rt:181:9
 is-permutation-requires-2 : tie.Need-is-permutation-requires-2
 is-permutation-requires-2 c κs = search needs
 
--- src/lib.rt:182:9
 refused-requires-5 : tie.Need-refused-requires-5
 refused-requires-5 c κs = search needs
 
--- src/lib.rt:182:9
 returns-5 : tie.Need-returns-5
 returns-5 c =
     arranges-refusal _ _ _ (c .refused5 .ensures)
@@ -77,7 +60,6 @@ returns-5 c =
       sym (c .before .before .is-permutation2 .ensures) ∙ not-true _ (c .before .if5 .taken),
     ))
 
--- src/lib.rt:184:11
 composed-requires : tie.Need-composed-requires
 composed-requires c κs =
     let s = c .before .before .before .before .before .before .before in
@@ -90,11 +72,9 @@ composed-requires c κs =
       lengths = c .before .before .before .before .if3 .left;
     }
 
--- src/lib.rt:184:5
 given-requires : tie.Need-given-requires
 given-requires c κs = search needs
 
--- src/lib.rt:164:1
 returns-6 : tie.Need-returns-6
 returns-6 c =
     let s = c .before .before .before .before .before .before .before .before .before in

@@ -5,15 +5,13 @@ use native.Mathlib.Omega.{arith}
 use lib.ListN.{getD}
 use Rattle.arrangements.specs.Permutation.{compose}
 use Rattle.arrangements.proofs.Group.{compose-at, compose-long}
+use Rattle.answers.proofs.Lent.{Filled, fill-none, fill-more}
 use Rattle.permutation.specs.declared.Permutation.{Permutation}
 use Rattle.permutation.specs.Record.{wordOf, zeros, Holds}
 use Rattle.permutation.proofs.Taken.{word-at, holds-below}
-use Rattle.answers.proofs.Lent.{Filled, fill-none, fill-more}
 use Rattle.permutation.proofs.Filled.{at, filled-record}
 use Rattle.permutation.proofs.composed.Statement.{statement}
 use Rattle.permutation.proofs.composed.Tie as tie
-use Rattle.permutation.proofs.composed.Reads as reads
-use Rattle.permutation.proofs.composed.Lts as lts
 
 abbrev Inv-loop : tie.InvT-loop
 Inv-loop p q n out₀ i₀ out i = (i ≤ n) × Filled (at (compose (wordOf p) (wordOf q))) zeros out i

@@ -5,9 +5,6 @@ use borrow.Author.Tests.{le-leb, lt-leb}
 use Rattle.permutation.proofs.Taken.{word-at, taken-holds, verdict-refuses, verdict-gives}
 use Rattle.permutation.proofs.image.Statement.{statement}
 use Rattle.permutation.proofs.image.Tie as tie
-use Rattle.permutation.proofs.image.Reads as reads
-use Rattle.permutation.proofs.image.Lts as lts
-use Rattle.permutation.proofs.checked.Reads as checked-reads
 
 checked-requires : tie.Need-checked-requires
 checked-requires c κs = search needs

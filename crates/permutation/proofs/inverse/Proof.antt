@@ -1,50 +1,37 @@
+-- `permutation::inverse` meets its contract: the refusal of the check is passed on, and the inverse is given. Assumes nothing.
+use borrow.Author.Needs.{needs}
 use Rattle.arrangements.specs.Permutation.{inverse}
 use Rattle.permutation.specs.Record.{wordOf}
 use Rattle.permutation.specs.Rules.{inverseSays}
 use Rattle.permutation.proofs.Taken.{taken-holds, verdict-refuses, verdict-gives}
 use Rattle.permutation.proofs.Arranging.{arranges-refusal, arranges-given}
-use borrow.Author.Needs.{needs}
 use Rattle.permutation.proofs.inverse.Statement.{statement}
 use Rattle.permutation.proofs.inverse.Tie as tie
-use Rattle.permutation.proofs.inverse.Reads as reads
-use Rattle.permutation.proofs.inverse.Lts as lts
-use Rattle.permutation.proofs.checked.Reads as checked-reads
-use Rattle.permutation.proofs.given.Reads as given-reads
-use Rattle.permutation.proofs.inverted.Reads as inverted-reads
-use Rattle.permutation.proofs.refused.Reads as refused-reads
 
--- src/lib.rt:138:11
 checked-requires : tie.Need-checked-requires
 checked-requires c κs = search needs
 
--- src/lib.rt:139:26
 enum-known-e : tie.Need-enum-known-e
 enum-known-e c = search needs
 
--- src/lib.rt:139:32
 refused-requires : tie.Need-refused-requires
 refused-requires c κs = search needs
 
--- src/lib.rt:140:33
 enum-told : tie.Need-enum-told
 enum-told c = search needs
 
--- src/lib.rt:140:33
 inverted-requires : tie.Need-inverted-requires
 inverted-requires c κs = verdict-gives (c .before .before .before .args .p) _ (c .before .before .checked .ensures) (c .enum-told .given .1) (search needs)
 
--- src/lib.rt:140:27
 given-requires : tie.Need-given-requires
 given-requires c κs = search needs
 
--- src/lib.rt:135:1
 returns : tie.Need-returns
 returns c =
     let p = c .before .before .before .before .before .args .p in
     arranges-refusal (inverseSays p) _ _ (c .refused .ensures)
     (simp (verdict-refuses p _ (c .before .before .before .before .checked .ensures) _ (c .before .before .e .given .1)))
 
--- src/lib.rt:135:1
 returns-2 : tie.Need-returns-2
 returns-2 c =
     let p = c .before .before .before .before .before .args .p in

@@ -10,9 +10,6 @@ use Rattle.permutation.specs.Record.{capacity}
 use Rattle.permutation.proofs.Counting.{smaller-few, inversions-turn, inversions-end}
 use Rattle.permutation.proofs.inversions.Statement.{statement}
 use Rattle.permutation.proofs.inversions.Tie as tie
-use Rattle.permutation.proofs.inversions.Reads as reads
-use Rattle.permutation.proofs.inversions.Lts as lts
-use Rattle.permutation.proofs.smaller.Reads as smaller-reads
 
 abbrev Inv-loop : tie.InvT-loop
 Inv-loop n entries sum₀ i₀ sum i =

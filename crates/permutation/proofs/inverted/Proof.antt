@@ -8,8 +8,6 @@ use Rattle.permutation.proofs.Taken.{word-at, holds-below}
 use Rattle.permutation.proofs.Filled.{Inverted, invert-none, invert-more, inverted-all, filled-record}
 use Rattle.permutation.proofs.inverted.Statement.{statement}
 use Rattle.permutation.proofs.inverted.Tie as tie
-use Rattle.permutation.proofs.inverted.Reads as reads
-use Rattle.permutation.proofs.inverted.Lts as lts
 
 abbrev Inv-loop : tie.InvT-loop
 Inv-loop p n out₀ i₀ out i = (i ≤ n) × Inverted (wordOf p) n i out

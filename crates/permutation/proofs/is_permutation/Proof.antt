@@ -8,8 +8,6 @@ use Rattle.permutation.specs.Record.{capacity}
 use Rattle.permutation.proofs.Seen.{Seen, seen-none, seen-more, seen-all, seen-large, seen-again}
 use Rattle.permutation.proofs.is_permutation.Statement.{statement}
 use Rattle.permutation.proofs.is_permutation.Tie as tie
-use Rattle.permutation.proofs.is_permutation.Reads as reads
-use Rattle.permutation.proofs.is_permutation.Lts as lts
 
 abbrev Inv-loop : tie.InvT-loop
 Inv-loop p n seen₀ i₀ seen i = (i ≤ n) × (length (p .entries) ≡ capacity) × Seen capacity (p .entries) n i seen

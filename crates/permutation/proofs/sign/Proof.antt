@@ -1,38 +1,27 @@
-use Rattle.permutation.proofs.Taken.{taken-holds, verdict-refuses, verdict-gives}
+-- `permutation::sign` meets its contract: the refusal of the check is passed on, and the sign is the parity of the inversions. Assumes nothing.
 use borrow.Author.Needs.{needs}
+use Rattle.permutation.proofs.Taken.{taken-holds, verdict-refuses, verdict-gives}
 use Rattle.permutation.proofs.sign.Statement.{statement}
 use Rattle.permutation.proofs.sign.Tie as tie
-use Rattle.permutation.proofs.sign.Reads as reads
-use Rattle.permutation.proofs.sign.Lts as lts
-use Rattle.answers.proofs.from_parity.Reads as from-parity-reads
-use Rattle.permutation.proofs.checked.Reads as checked-reads
-use Rattle.permutation.proofs.inversions.Reads as inversions-reads
 
--- src/lib.rt:226:11
 checked-requires : tie.Need-checked-requires
 checked-requires c κs = search needs
 
--- src/lib.rt:227:26
 enum-known-e : tie.Need-enum-known-e
 enum-known-e c = search needs
 
--- src/lib.rt:229:42
 enum-told : tie.Need-enum-told
 enum-told c = search needs
 
--- src/lib.rt:229:42
 inversions-requires : tie.Need-inversions-requires
 inversions-requires c κs = verdict-gives (c .before .before .before .args .p) _ (c .before .before .checked .ensures) (c .enum-told .given .1) (search needs) .short
 
--- src/lib.rt:229:17
 from-parity-requires : tie.Need-from-parity-requires
 from-parity-requires c κs = search needs
 
--- src/lib.rt:223:1
 returns : tie.Need-returns
 returns c = simp (verdict-refuses (c .before .before .before .before .args .p) _ (c .before .before .before .checked .ensures) _ (c .before .e .given .1))
 
--- src/lib.rt:223:1
 returns-2 : tie.Need-returns-2
 returns-2 c =
     let p = c .before .before .before .before .before .args .p in

@@ -13,8 +13,6 @@ use Rattle.permutation.specs.Record.{capacity}
 use Rattle.permutation.proofs.Counting.{smaller-turn, smaller-end}
 use Rattle.permutation.proofs.smaller.Statement.{statement}
 use Rattle.permutation.proofs.smaller.Tie as tie
-use Rattle.permutation.proofs.smaller.Reads as reads
-use Rattle.permutation.proofs.smaller.Lts as lts
 
 abbrev Inv-loop : tie.InvT-loop
 Inv-loop from to x entries count₀ i₀ count i =

@@ -2,7 +2,7 @@
 --   fall-here, no-fall-here, no-fall    the search for the first entry that is smaller than the one before it
 --   greater-here, no-greater    the search for the first entry that is greater than that at k
 --   no-next, next-places    what the places found tell
-use mathlib.Core.Path.{_≡_, sym, _∙_}
+use mathlib.Core.Path.{_≡_}
 use Prim.Native.Nat.{ℕ, suc, _+_, _-_, _≤_, _<_}
 use native.Mathlib.Decide.{ℕ-discrete}
 use native.Mathlib.Omega.{arith}

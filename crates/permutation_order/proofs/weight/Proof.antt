@@ -1,20 +1,15 @@
--- `permutation::weight` meets its contract: the sum is what the places passed weigh. Assumes nothing.
-use mathlib.Core.Path.{_≡_, ap, ap₂, _∙_}
-use Prim.Native.Nat.{ℕ, _+_, _*_, _≤_, _-_}
+-- `permutation_order::weight` meets its contract: the sum is what the places passed weigh. Assumes nothing.
+use mathlib.Core.Path.{_≡_, ap, _∙_}
+use Prim.Native.Nat.{_+_, _≤_, _-_}
 use native.Mathlib.Omega.{arith}
 use borrow.Author.Needs.{needs}
-use lib.ListN.{length, take, getD}
-use lib.Seq.{length-take-le}
+use lib.ListN.{length, take}
 use Rattle.arrangements.specs.Rank.{rankBelow}
 use Rattle.permutation.specs.Record.{capacity, wordOf}
 use Rattle.permutation.proofs.Taken.{word-long}
-use Rattle.permutation.proofs.Counting.{rank-turn, rank-fits}
-use Rattle.permutation.proofs.weight.Statement.{statement}
-use Rattle.permutation.proofs.weight.Tie as tie
-use Rattle.permutation.proofs.weight.Reads as reads
-use Rattle.permutation.proofs.weight.Lts as lts
-use Rattle.count.proofs.factorials.Reads as factorials-reads
-use Rattle.permutation.proofs.smaller.Reads as smaller-reads
+use Rattle.permutation_order.proofs.Weighing.{rank-turn, rank-fits}
+use Rattle.permutation_order.proofs.weight.Statement.{statement}
+use Rattle.permutation_order.proofs.weight.Tie as tie
 
 abbrev Inv-loop : tie.InvT-loop
 Inv-loop n entries table sum₀ j₀ sum j = (j ≤ n) × (sum ≡ rankBelow (take n entries) j)

@@ -1,15 +1,12 @@
--- `permutation::unranked` meets its contract: the digits passed have made the entries, and the others are left. Assumes nothing.
+-- `permutation_order::unranked` meets its contract: the digits passed have made the entries, and the others are left. Assumes nothing.
 use mathlib.Core.Path.{_≡_, ap, _∙_}
-use Prim.Native.Nat.{ℕ, _+_, _/_, _≤_, _-_}
+use Prim.Native.Nat.{ℕ, _/_, _≤_, _-_}
 use native.Mathlib.Omega.{arith}
 use Rattle.words.specs.Factorial.{factorial}
 use Rattle.permutation.specs.Record.{recordOf}
-use Rattle.permutation.proofs.Making.{made, make-none, rest-none, make-more, rest-more, made-holds}
-use Rattle.permutation.proofs.unranked.Statement.{statement}
-use Rattle.permutation.proofs.unranked.Tie as tie
-use Rattle.permutation.proofs.unranked.Reads as reads
-use Rattle.permutation.proofs.unranked.Lts as lts
-use Rattle.permutation.proofs.with_last.Reads as with-last-reads
+use Rattle.permutation_order.proofs.Making.{made, make-none, rest-none, make-more, rest-more, made-holds}
+use Rattle.permutation_order.proofs.unranked.Statement.{statement}
+use Rattle.permutation_order.proofs.unranked.Tie as tie
 
 abbrev Inv-loop : tie.InvT-loop
 Inv-loop n r p₀ rest₀ j₀ p rest j = (j ≤ n) × (p ≡ recordOf (made j r)) × (rest ≡ r / factorial j)

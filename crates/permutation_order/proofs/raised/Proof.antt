@@ -1,9 +1,9 @@
--- `permutation::raised` meets its contract: each return by the test that led there. Assumes nothing.
+-- `permutation_order::raised` meets its contract: each return by the test that led there. Assumes nothing.
 use native.Mathlib.Numerals.{add-one}
 use borrow.Author.Needs.{needs}
 use borrow.Author.Tests.{lt-ltb, le-ltb}
-use Rattle.permutation.proofs.raised.Statement.{statement}
-use Rattle.permutation.proofs.raised.Tie as tie
+use Rattle.permutation_order.proofs.raised.Statement.{statement}
+use Rattle.permutation_order.proofs.raised.Tie as tie
 
 returns : tie.Need-returns
 returns c = simp (lt-ltb _ _ (c .if1 .taken))

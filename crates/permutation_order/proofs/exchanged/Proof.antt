@@ -1,9 +1,7 @@
--- `permutation::exchanged` meets its contract: each return by the tests that led there. Assumes nothing.
+-- `permutation_order::exchanged` meets its contract: each return by the tests that led there. Assumes nothing.
 use borrow.Author.Tests.{eq-eqb, ne-eqb}
-use Rattle.permutation.proofs.exchanged.Statement.{statement}
-use Rattle.permutation.proofs.exchanged.Tie as tie
-use Rattle.permutation.proofs.exchanged.Reads as reads
-use Rattle.permutation.proofs.exchanged.Lts as lts
+use Rattle.permutation_order.proofs.exchanged.Statement.{statement}
+use Rattle.permutation_order.proofs.exchanged.Tie as tie
 
 returns : tie.Need-returns
 returns c = simp (eq-eqb _ _ (c .if1 .taken))

@@ -1,4 +1,4 @@
--- `permutation::with_last` meets its contract: the places passed hold the raised entries. Assumes nothing.
+-- `permutation_order::with_last` meets its contract: the places passed hold the raised entries. Assumes nothing.
 use mathlib.Core.Path.{_≡_, refl, sym, ap, subst, _∙_}
 use Prim.Native.Nat.{suc, _+_, _≤_, _-_}
 use native.Mathlib.Numerals.{add-one}
@@ -6,14 +6,11 @@ use native.Mathlib.Omega.{arith}
 use Rattle.arrangements.specs.Rank.{raise, lastly}
 use Rattle.arrangements.proofs.Unrank.{lastly-at, lastly-end, lastly-long}
 use Rattle.answers.proofs.Lent.{Filled, fill-none, fill-more}
 use Rattle.permutation.specs.Record.{zeros, wordOf}
 use Rattle.permutation.proofs.Taken.{word-at, holds-below}
 use Rattle.permutation.proofs.Filled.{at, filled-record}
-use Rattle.permutation.proofs.with_last.Statement.{statement}
-use Rattle.permutation.proofs.with_last.Tie as tie
-use Rattle.permutation.proofs.with_last.Reads as reads
-use Rattle.permutation.proofs.with_last.Lts as lts
-use Rattle.permutation.proofs.raised.Reads as raised-reads
+use Rattle.permutation_order.proofs.with_last.Statement.{statement}
+use Rattle.permutation_order.proofs.with_last.Tie as tie
 
 abbrev Inv-loop : tie.InvT-loop
 Inv-loop d p n out₀ i₀ out i = (i ≤ n) × Filled (at (lastly d (wordOf p))) zeros out i

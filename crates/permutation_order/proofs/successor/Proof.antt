@@ -1,27 +1,19 @@
--- `permutation::successor` meets its contract: the step at the places found is the next permutation. Assumes nothing.
+-- `permutation_order::successor` meets its contract: the step at the places found is the next permutation. Assumes nothing.
 use mathlib.Core.Path.{ap, _∙_}
 use Prim.Native.Nat.{suc}
 use native.Mathlib.Omega.{arith}
 use borrow.Author.Tests.{le-leb, lt-leb}
+use borrow.Author.Needs.{needs}
 use Rattle.words.specs.Factorial.{factorial}
 use Rattle.arrangements.specs.Rank.{rankOf, unrankOf}
 use Rattle.arrangements.proofs.Next.{step-has-room, step-is-next}
 use Rattle.permutation.specs.Record.{wordOf, recordOf}
-use Rattle.permutation.specs.Rules.{successorSays}
 use Rattle.permutation.proofs.Taken.{taken-holds, verdict-refuses, verdict-gives}
 use Rattle.permutation.proofs.Arranging.{arranges-refusal, arranges-given}
-use Rattle.permutation.proofs.Searching.{no-next, next-places}
-use borrow.Author.Needs.{needs}
-use Rattle.permutation.proofs.successor.Statement.{statement}
-use Rattle.permutation.proofs.successor.Tie as tie
-use Rattle.permutation.proofs.successor.Reads as reads
-use Rattle.permutation.proofs.successor.Lts as lts
-use Rattle.permutation.proofs.checked.Reads as checked-reads
-use Rattle.permutation.proofs.first_fall.Reads as first-fall-reads
-use Rattle.permutation.proofs.first_greater.Reads as first-greater-reads
-use Rattle.permutation.proofs.given.Reads as given-reads
-use Rattle.permutation.proofs.refused.Reads as refused-reads
-use Rattle.permutation.proofs.stepped.Reads as stepped-reads
+use Rattle.permutation_order.specs.Rules.{successorSays}
+use Rattle.permutation_order.proofs.Searching.{no-next, next-places}
+use Rattle.permutation_order.proofs.successor.Statement.{statement}
+use Rattle.permutation_order.proofs.successor.Tie as tie
 
 checked-requires : tie.Need-checked-requires
 checked-requires c κs = search needs

@@ -1,13 +1,11 @@
--- `permutation::first_greater` meets its contract: no entry passed is greater. Assumes nothing.
+-- `permutation_order::first_greater` meets its contract: no entry passed is greater. Assumes nothing.
 use Prim.Native.Nat.{ℕ, _-_, _≤_, _<_}
 use native.Mathlib.Omega.{arith}
 use borrow.Author.Count.{below-more}
 use lib.ListN.{getD}
-use Rattle.permutation.proofs.Searching.{greater-here, no-greater}
-use Rattle.permutation.proofs.first_greater.Statement.{statement}
-use Rattle.permutation.proofs.first_greater.Tie as tie
-use Rattle.permutation.proofs.first_greater.Reads as reads
-use Rattle.permutation.proofs.first_greater.Lts as lts
+use Rattle.permutation_order.proofs.Searching.{greater-here, no-greater}
+use Rattle.permutation_order.proofs.first_greater.Statement.{statement}
+use Rattle.permutation_order.proofs.first_greater.Tie as tie
 
 abbrev Inv-loop : tie.InvT-loop
 Inv-loop k p x i₀ i = (i ≤ k) × ((j : ℕ) → j < i → getD (p .entries) j 0 ≤ getD (p .entries) k 0)

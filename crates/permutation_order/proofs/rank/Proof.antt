@@ -1,12 +1,8 @@
--- `permutation::rank` meets its contract: the refusal of the check is passed on, and the weight is the rank. Assumes nothing.
-use Rattle.permutation.proofs.Taken.{taken-holds, verdict-refuses, verdict-gives}
+-- `permutation_order::rank` meets its contract: the refusal of the check is passed on, and the weight is the rank. Assumes nothing.
 use borrow.Author.Needs.{needs}
-use Rattle.permutation.proofs.rank.Statement.{statement}
-use Rattle.permutation.proofs.rank.Tie as tie
-use Rattle.permutation.proofs.rank.Reads as reads
-use Rattle.permutation.proofs.rank.Lts as lts
-use Rattle.permutation.proofs.checked.Reads as checked-reads
-use Rattle.permutation.proofs.weight.Reads as weight-reads
+use Rattle.permutation.proofs.Taken.{taken-holds, verdict-refuses, verdict-gives}
+use Rattle.permutation_order.proofs.rank.Statement.{statement}
+use Rattle.permutation_order.proofs.rank.Tie as tie
 
 checked-requires : tie.Need-checked-requires
 checked-requires c κs = search needs

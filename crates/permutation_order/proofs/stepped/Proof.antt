@@ -1,4 +1,4 @@
--- `permutation::stepped` meets its contract: the places passed hold the step. Assumes nothing.
+-- `permutation_order::stepped` meets its contract: the places passed hold the step. Assumes nothing.
 use mathlib.Core.Path.{_≡_, sym, ap, _∙_}
 use Prim.Native.Nat.{ℕ, _≤_, _-_}
 use native.Mathlib.Omega.{arith}
@@ -7,15 +7,11 @@ use lib.ListN.{getD}
 use Rattle.arrangements.specs.Step.{turn, exchange, source, step}
 use Rattle.arrangements.proofs.Next.{step-at, step-long, source-below}
 use Rattle.answers.proofs.Lent.{Filled, fill-none, fill-more}
 use Rattle.permutation.specs.Record.{zeros, wordOf}
 use Rattle.permutation.proofs.Taken.{word-at}
 use Rattle.permutation.proofs.Filled.{at, filled-record}
-use Rattle.permutation.proofs.stepped.Statement.{statement}
-use Rattle.permutation.proofs.stepped.Tie as tie
-use Rattle.permutation.proofs.stepped.Reads as reads
-use Rattle.permutation.proofs.stepped.Lts as lts
-use Rattle.permutation.proofs.exchanged.Reads as exchanged-reads
-use Rattle.permutation.proofs.turned.Reads as turned-reads
+use Rattle.permutation_order.proofs.stepped.Statement.{statement}
+use Rattle.permutation_order.proofs.stepped.Tie as tie
 
 abbrev Inv-loop : tie.InvT-loop
 Inv-loop i k p n out₀ j₀ out j = (j ≤ n) × Filled (at (step i k (wordOf p))) zeros out j

@@ -1,10 +1,8 @@
--- `permutation::turned` meets its contract: each return by the test that led there. Assumes nothing.
+-- `permutation_order::turned` meets its contract: each return by the test that led there. Assumes nothing.
 use borrow.Author.Tests.{lt-ltb, le-ltb}
 use borrow.Author.Needs.{needs}
-use Rattle.permutation.proofs.turned.Statement.{statement}
-use Rattle.permutation.proofs.turned.Tie as tie
-use Rattle.permutation.proofs.turned.Reads as reads
-use Rattle.permutation.proofs.turned.Lts as lts
+use Rattle.permutation_order.proofs.turned.Statement.{statement}
+use Rattle.permutation_order.proofs.turned.Tie as tie
 
 sub-result : tie.Need-sub-result
 sub-result c = search needs

@@ -1,25 +1,19 @@
--- `permutation::unrank` meets its contract: each return by the tests that led there. Assumes nothing.
+-- `permutation_order::unrank` meets its contract: each return by the tests that led there. Assumes nothing.
 use mathlib.Core.Path.{_≡_, ap, _∙_}
 use mathlib.Core.Bool.{Bool}
 use Prim.Native.Nat.{ℕ, _≤_, _<_}
 use native.Mathlib.Omega.{arith}
 use borrow.Author.Tests.{lt-ltb, le-ltb, le-leb, lt-leb}
+use borrow.Author.Needs.{needs}
 use Rattle.words.specs.Pick.{pick}
 use Rattle.words.specs.Factorial.{factorial}
 use Rattle.arrangements.specs.Rank.{unrankOf}
 use Rattle.count.specs.Factorial.{factorialOf}
 use Rattle.permutation.specs.Record.{capacity, recordOf}
 use Rattle.permutation.proofs.Arranging.{arranges-refusal, arranges-given}
-use Rattle.permutation.proofs.Making.{made, made-all}
-use borrow.Author.Needs.{needs}
-use Rattle.permutation.proofs.unrank.Statement.{statement}
-use Rattle.permutation.proofs.unrank.Tie as tie
-use Rattle.permutation.proofs.unrank.Reads as reads
-use Rattle.permutation.proofs.unrank.Lts as lts
-use Rattle.count.proofs.factorial.Reads as factorial-reads
-use Rattle.permutation.proofs.given.Reads as given-reads
-use Rattle.permutation.proofs.refused.Reads as refused-reads
-use Rattle.permutation.proofs.unranked.Reads as unranked-reads
+use Rattle.permutation_order.proofs.Making.{made, made-all}
+use Rattle.permutation_order.proofs.unrank.Statement.{statement}
+use Rattle.permutation_order.proofs.unrank.Tie as tie
 
 -- up to the capacity the table has the factorial
 in-table : (n : ℕ) → n ≤ capacity → factorialOf n ≡ factorial n

@@ -1,13 +1,11 @@
--- `permutation::first_fall` meets its contract: the entries passed rise. Assumes nothing.
+-- `permutation_order::first_fall` meets its contract: the entries passed rise. Assumes nothing.
 use Prim.Native.Nat.{_-_, _<_}
 use native.Mathlib.Omega.{arith}
 use Rattle.arrangements.specs.Step.{Rises}
 use Rattle.permutation.specs.Record.{wordOf}
-use Rattle.permutation.proofs.Searching.{fall-here, no-fall-here, no-fall}
-use Rattle.permutation.proofs.first_fall.Statement.{statement}
-use Rattle.permutation.proofs.first_fall.Tie as tie
-use Rattle.permutation.proofs.first_fall.Reads as reads
-use Rattle.permutation.proofs.first_fall.Lts as lts
+use Rattle.permutation_order.proofs.Searching.{fall-here, no-fall-here, no-fall}
+use Rattle.permutation_order.proofs.first_fall.Statement.{statement}
+use Rattle.permutation_order.proofs.first_fall.Tie as tie
 
 abbrev Inv-loop : tie.InvT-loop
 Inv-loop p n k₀ k = (0 < k) × Rises (wordOf p) k
