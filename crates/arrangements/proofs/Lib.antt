@@ -1,0 +1,10 @@
+pub mod Places
+pub mod Smaller
+pub mod Rank
+pub mod Unrank
+pub mod Counted
+pub mod Group
+pub mod Ends
+pub mod Next
+pub mod Sign
+pub mod Examples

@@ -1,0 +1,3 @@
+pub mod Permutation
+pub mod Rank
+pub mod Step

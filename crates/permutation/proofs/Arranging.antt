@@ -1,0 +1,24 @@
+-- Answers that give a permutation. Assumes nothing.
+--   arranges-refusal, arranges-given    what such an answer says, from how it was made
+--   arranges-refused    one that passes the refusal of the check on
+use mathlib.Core.Path.{_≡_, refl, ap, subst⁻¹, _∙_}
+use mathlib.Core.List.{List}
+use Prim.Native.Nat.{ℕ}
+use lib.ListN.{length, drop}
+use lib.Seq.{take-append-seam}
+use Rattle.answers.specs.declared.Refusal.{Refusal}
+use Rattle.answers.specs.Says.{Says, refuses, gives, numberOf}
+use Rattle.permutation.specs.declared.Permutation.{Permutation}
+use Rattle.permutation.specs.declared.Arranged.{Arranged}
+use Rattle.permutation.specs.Record.{zeros, wordOf, recordOf, refusal, giving, Arranges}
+
+pub word-of-record : (w : List ℕ) → wordOf (recordOf w) ≡ w
+word-of-record w = take-append-seam w (drop (length w) zeros)
+
+pub arranges-refusal : (s : Says (List ℕ)) (r : Arranged) (e : Refusal) → r ≡ refusal e → s ≡ refuses (numberOf e) → Arranges s r
+arranges-refusal s r e q t = subst⁻¹ (λ (x : Arranged). Arranges s x) q (subst⁻¹ (λ (x : Says (List ℕ)). Arranges x (refusal e)) t (record { says = refl; value = refl }))
+
+pub arranges-given : (s : Says (List ℕ)) (r : Arranged) (p : Permutation) (w : List ℕ) → r ≡ giving p → p ≡ recordOf w → s ≡ gives w → Arranges s r
+arranges-given s r p w q e t =
+    subst⁻¹ (λ (x : Arranged). Arranges s x) (q ∙ ap giving e)
+    (subst⁻¹ (λ (x : Says (List ℕ)). Arranges x (giving (recordOf w))) t (record { says = ap gives (word-of-record w); value = refl }))

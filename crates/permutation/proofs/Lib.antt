@@ -1,0 +1,5 @@
+pub mod Seen
+pub mod Taken
+pub mod Filled
+pub mod Arranging
+pub mod Counting

@@ -1,0 +1,25 @@
+-- `permutation::checked` meets its contract: each return by the tests that led there. Assumes nothing.
+use mathlib.Core.Path.{sym, _∙_}
+use borrow.Author.Needs.{needs}
+use borrow.Author.Tests.{lt-ltb, le-ltb}
+use Rattle.permutation.specs.Rules.{taken}
+use Rattle.permutation.proofs.checked.Statement.{statement}
+use Rattle.permutation.proofs.checked.Tie as tie
+
+returns : tie.Need-returns
+unfolding taken
+returns c = simp (lt-ltb _ _ (c .if1 .taken))
+
+is-permutation-requires : tie.Need-is-permutation-requires
+is-permutation-requires c κs = search needs
+
+returns-2 : tie.Need-returns-2
+unfolding taken
+returns-2 c = simp (le-ltb _ _ (c .before .before .if1 .left), sym (c .before .is-permutation .ensures) ∙ c .if2 .taken)
+
+returns-3 : tie.Need-returns-3
+unfolding taken
+returns-3 c = simp (le-ltb _ _ (c .before .before .if1 .left), sym (c .before .is-permutation .ensures) ∙ c .if2 .left)
+
+pub checked-spec : {M : Type 1} → statement M
+checked-spec = tie.close (tie.spec returns is-permutation-requires returns-2 returns-3)

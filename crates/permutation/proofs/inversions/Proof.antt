@@ -1,0 +1,79 @@
+-- `permutation::inversions` meets its contract: the sum and what is left to count are the whole. Assumes nothing.
+use mathlib.Core.Path.{_≡_}
+use Prim.Native.Nat.{_+_, _*_, _≤_, _-_}
+use native.Mathlib.Omega.{arith}
+use borrow.Author.Needs.{needs}
+use lib.ListN.{length, take, getD}
+use lib.Seq.{slice}
+use Rattle.words.specs.Inversions.{inversions}
+use Rattle.permutation.specs.Record.{capacity}
+use Rattle.permutation.proofs.Counting.{smaller-few, inversions-turn, inversions-end}
+use Rattle.permutation.proofs.inversions.Statement.{statement}
+use Rattle.permutation.proofs.inversions.Tie as tie
+
+abbrev Inv-loop : tie.InvT-loop
+Inv-loop n entries sum₀ i₀ sum i =
+    (i ≤ n) × (sum ≤ capacity * i) × (length entries ≡ capacity) × (sum + inversions (slice i n entries) ≡ inversions (take n entries))
+
+abbrev μ-loop : tie.MeasureT-loop
+μ-loop n entries sum₀ i₀ sum i = n - i
+
+loop-holds : tie.Need-loop-holds Inv-loop μ-loop
+loop-holds c = (omega arith, omega arith, search needs, omega arith)
+
+mul-x : tie.Need-mul-x Inv-loop μ-loop
+mul-x c = omega arith
+
+array-read-x : tie.Need-array-read-x Inv-loop μ-loop
+array-read-x c = omega arith
+
+add-smaller : tie.Need-add-smaller Inv-loop μ-loop
+add-smaller c = omega arith
+
+smaller-requires : tie.Need-smaller-requires Inv-loop μ-loop
+smaller-requires c κs = omega arith
+
+add-sum : tie.Need-add-sum Inv-loop μ-loop
+add-sum c =
+    let p = c .before .before .before .before .args .p in
+    let l = c .before .before .loop in
+    omega (arith, c .smaller .ensures, smaller-few (p .entries) (l .i + 1) (p .len) (getD (p .entries) (l .i) 0) (omega (arith, l .inv .2)))
+
+add-i : tie.Need-add-i Inv-loop μ-loop
+add-i c = omega arith
+
+loop-less : tie.Need-loop-less Inv-loop μ-loop
+loop-less c = omega arith
+
+loop-again : tie.Need-loop-again Inv-loop μ-loop
+loop-again c =
+    let p = c .before .before .before .before .args .p in
+    let l = c .before .before .loop in (
+      omega arith,
+      omega (arith, c .smaller .ensures, smaller-few (p .entries) (l .i + 1) (p .len) (getD (p .entries) (l .i) 0) (omega (arith, l .inv .2))),
+      l .inv .2,
+      omega (arith, l .inv .3, c .smaller .ensures, inversions-turn (p .entries) (l .i) (p .len) (c .before .loop-test .taken) (omega (arith, l .inv .2))),
+    )
+
+returns : tie.Need-returns Inv-loop μ-loop
+returns c =
+    let p = c .before .before .before .args .p in
+    let l = c .before .loop in
+    omega (arith, l .inv .3, inversions-end (p .entries) (l .i) (p .len) (omega arith))
+
+pub inversions-spec : {M : Type 1} → statement M
+inversions-spec =
+    tie.close
+    (tie.spec
+    Inv-loop
+    μ-loop
+    loop-holds
+    mul-x
+    array-read-x
+    add-smaller
+    smaller-requires
+    add-sum
+    add-i
+    loop-less
+    loop-again
+    returns)

@@ -1,0 +1,79 @@
+-- `permutation::is_permutation` meets its contract: the marks are those of the entries passed. Assumes nothing.
+use mathlib.Core.Path.{_≡_, sym}
+use Prim.Native.Nat.{_≤_, _-_}
+use native.Mathlib.Omega.{arith}
+use borrow.Author.Needs.{needs}
+use lib.ListN.{length}
+use Rattle.permutation.specs.Record.{capacity}
+use Rattle.permutation.proofs.Seen.{Seen, seen-none, seen-more, seen-all, seen-large, seen-again}
+use Rattle.permutation.proofs.is_permutation.Statement.{statement}
+use Rattle.permutation.proofs.is_permutation.Tie as tie
+
+abbrev Inv-loop : tie.InvT-loop
+Inv-loop p n seen₀ i₀ seen i = (i ≤ n) × (length (p .entries) ≡ capacity) × Seen capacity (p .entries) n i seen
+
+abbrev μ-loop : tie.MeasureT-loop
+μ-loop p n seen₀ i₀ seen i = n - i
+
+loop-holds : tie.Need-loop-holds Inv-loop μ-loop
+loop-holds c = (omega arith, search needs, seen-none capacity (c .args .t1 .entries) (c .args .t1 .len))
+
+mul-x : tie.Need-mul-x Inv-loop μ-loop
+mul-x c = omega arith
+
+element-copy-out-x : tie.Need-element-copy-out-x Inv-loop μ-loop
+element-copy-out-x c = omega arith
+
+returns : tie.Need-returns Inv-loop μ-loop
+returns c =
+    let s = c .before .before .before .before in
+    let i = c .before .before .before .loop in
+    sym (seen-large (s .args .t1 .entries) (s .args .t1 .len) (omega (arith, s .pre)) (i .i) (c .before .before .loop-test .taken) (c .if1 .taken))
+
+array-read-if2 : tie.Need-array-read-if2 Inv-loop μ-loop
+array-read-if2 c = omega arith
+
+returns-2 : tie.Need-returns-2 Inv-loop μ-loop
+returns-2 c =
+    let s = c .before .before .before .before .before in
+    let i = c .before .before .before .before .loop in
+    sym (seen-again (s .args .t1 .entries) (s .args .t1 .len) (omega (arith, s .pre)) capacity (i .i) (i .seen) (i .inv .2) (c .before .before .before .loop-test .taken) (c .if2 .taken))
+
+array-write-seen : tie.Need-array-write-seen Inv-loop μ-loop
+array-write-seen c = omega arith
+
+add-i : tie.Need-add-i Inv-loop μ-loop
+add-i c = omega arith
+
+loop-less : tie.Need-loop-less Inv-loop μ-loop
+loop-less c = omega arith
+
+loop-again : tie.Need-loop-again Inv-loop μ-loop
+loop-again c =
+    let s = c .before .before .before .before .before in
+    let i = c .before .before .before .before .loop in
+    (omega arith, i .inv .1, seen-more capacity (s .args .t1 .entries) (s .args .t1 .len) (i .i) (i .seen) (i .inv .2) (s .pre) (c .before .if1 .left) (c .if2 .left))
+
+returns-3 : tie.Need-returns-3 Inv-loop μ-loop
+returns-3 c =
+    let s = c .before .before in
+    let i = c .before .loop in
+    sym (seen-all (s .args .t1 .entries) (s .args .t1 .len) (omega (arith, s .pre)) capacity (i .i) (i .seen) (i .inv .2) (c .loop-test .left))
+
+pub is-permutation-spec : {M : Type 1} → statement M
+is-permutation-spec =
+    tie.close
+    (tie.spec
+    Inv-loop
+    μ-loop
+    loop-holds
+    mul-x
+    element-copy-out-x
+    returns
+    array-read-if2
+    returns-2
+    array-write-seen
+    add-i
+    loop-less
+    loop-again
+    returns-3)

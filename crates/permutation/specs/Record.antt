@@ -1,0 +1,75 @@
+-- The record of a permutation, and what each answer means in document 01's numbers. Assumes nothing.
+--   capacity    how many entries a record holds
+--   wordOf p    the permutation as a list: the first len entries; what stands past them is ignored
+--   zeros    a record's entries, all 0
+--   recordOf w    the record of a list: zeros past its length
+--   Holds p    the record holds a permutation, not longer than the capacity
+--   Agree p q    both do, and they have one length
+--   verdictSays v a    what a verdict means that stands beside the value a
+--   signsSays, arrangedSays    what each case of an answer means
+--   valueOf s    the record beside the verdict: that of the list, and after a refusal that of the empty one
+--   refusal e, giving p    the answers that refuse, and that give a record
+--   Arranges s r    the answer r says s, and holds the record that belongs to it
+use mathlib.Core.Path.{_≡_}
+use mathlib.Core.List.{List, [], _++_}
+use Prim.Native.Nat.{ℕ, _≤_}
+use lib.ListN.{length, take, drop, replicate}
+use Rattle.arrangements.specs.Permutation.{Permutation as IsPermutation}
+use Rattle.answers.specs.declared.Refusal.{Refusal}
+use Rattle.answers.specs.declared.Sign.{Sign}
+use Rattle.answers.specs.Says.{Says, refuses, gives, numberOf}
+use Rattle.permutation.specs.declared.Permutation.{Permutation}
+use Rattle.permutation.specs.declared.Signs.{Signs}
+use Rattle.permutation.specs.declared.Signs.the-variants as signs
+use Rattle.permutation.specs.declared.Verdict.{Verdict}
+use Rattle.permutation.specs.declared.Verdict.the-variants as verdict
+use Rattle.permutation.specs.declared.Arranged.{Arranged}
+
+abbrev pub capacity : ℕ
+capacity = 20
+
+abbrev pub wordOf : Permutation → List ℕ
+wordOf p = take (p .len) (p .entries)
+
+abbrev pub zeros : List ℕ
+zeros = replicate capacity 0
+
+abbrev pub recordOf : List ℕ → Permutation
+recordOf w = record { entries = w ++ drop (length w) zeros; len = length w }
+
+pub record Holds (p : Permutation) : Type 0 where
+  pub short : p .len ≤ capacity
+  pub permutation : IsPermutation (p .len) (wordOf p)
+
+pub record Agree (p q : Permutation) : Type 0 where
+  pub left : Holds p
+  pub right : Holds q
+  pub lengths : p .len ≡ q .len
+
+-- ---- what each case of an answer means
+
+abbrev pub verdictSays : {A : Type 0} → Verdict → A → Says A
+verdictSays verdict.Given a = gives a
+verdictSays (verdict.Refused e) a = refuses (numberOf e)
+
+abbrev pub signsSays : Signs → Says Sign
+signsSays (signs.Is s) = gives s
+signsSays (signs.Refused e) = refuses (numberOf e)
+
+abbrev pub arrangedSays : Arranged → Says (List ℕ)
+arrangedSays r = verdictSays (r .verdict) (wordOf (r .value))
+
+abbrev pub valueOf : Says (List ℕ) → Permutation
+valueOf (refuses e) = recordOf []
+valueOf (gives w) = recordOf w
+
+-- the answers that refuse with e, and that give p
+abbrev pub refusal : Refusal → Arranged
+refusal e = record { verdict = verdict.Refused e; value = recordOf [] }
+
+abbrev pub giving : Permutation → Arranged
+giving p = record { verdict = verdict.Given; value = p }
+
+pub record Arranges (s : Says (List ℕ)) (r : Arranged) : Type 0 where
+  pub says : arrangedSays r ≡ s
+  pub value : r .value ≡ valueOf s

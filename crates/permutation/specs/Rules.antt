@@ -1,0 +1,45 @@
+-- What each call answers, for all inputs: the checks of document 01 in their order, and then the value (01, "Permutations" and the lines of refusals).
+-- Assumes nothing.
+--   tooLong n    a length that passes the capacity: 1
+--   taken p    the permutation that a record holds: 1 for its length, 10 if it is no bijection of 0 .. n-1
+--   imageSays p i, inverseSays p, composeSays p q, signSays p
+use mathlib.Core.Bool.{Bool, not}
+use mathlib.Core.List.{List}
+use Prim.Native.Nat.{ℕ}
+use lib.Dec.{leb, ltb, eqb}
+use lib.ListN.{getD}
+use Rattle.words.specs.Inversions.{inversions}
+use Rattle.arrangements.specs.Permutation.{isPermutation, compose, inverse}
+use Rattle.answers.specs.declared.Sign.{Sign}
+use Rattle.answers.specs.Says.{Says, gives, refusedIf, andThen}
+use Rattle.answers.specs.Signs.{signOf}
+use Rattle.permutation.specs.declared.Permutation.{Permutation}
+use Rattle.permutation.specs.Record.{capacity, wordOf}
+
+abbrev pub tooLong : ℕ → Bool
+tooLong n = ltb capacity n
+
+-- the one place where it is said which records are permutations
+abbrev pub notAPermutation : Permutation → Bool
+notAPermutation p = not (isPermutation (wordOf p))
+
+unfoldable pub taken : Permutation → Says (List ℕ)
+taken p = refusedIf (tooLong (p .len)) 1 (refusedIf (notAPermutation p) 10 (gives (wordOf p)))
+
+abbrev pub imageSays : Permutation → ℕ → Says ℕ
+imageSays p i = andThen (taken p) (λ w. refusedIf (leb (p .len) i) 7 (gives (getD w i 0)))
+
+abbrev pub inverseSays : Permutation → Says (List ℕ)
+inverseSays p = andThen (taken p) (λ w. gives (inverse w))
+
+abbrev pub composeSays : Permutation → Permutation → Says (List ℕ)
+composeSays p q =
+    refusedIf (tooLong (p .len)) 1
+    (refusedIf (tooLong (q .len)) 1
+    (refusedIf (not (eqb (p .len) (q .len))) 8
+    (refusedIf (notAPermutation p) 10
+    (refusedIf (notAPermutation q) 10
+    (gives (compose (wordOf p) (wordOf q)))))))
+
+abbrev pub signSays : Permutation → Says Sign
+signSays p = andThen (taken p) (λ w. gives (signOf (inversions w)))

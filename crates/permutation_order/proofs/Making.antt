@@ -1,0 +1,55 @@
+-- The permutation of a rank, made entry by entry from the digits of the rank. Assumes nothing.
+--   made j r    what the first j digits of r make
+--   make-none, make-more, rest-more    where the making begins, and after one entry more
+--   made-holds    it is a permutation
+--   made-all    with a rank below n!, n digits make the permutation of that rank
+use mathlib.Core.Path.{_≡_, refl, sym, ap, ap₂, subst⁻¹, _∙_}
+use mathlib.Core.List.{List, []}
+use Prim.Native.Nat.{ℕ, _+_, _/_, _%_, _≤_, _<_}
+use native.Mathlib.Nat.{mod-lt, mod-eq-of-lt, div-one}
+use native.Mathlib.Numerals.{add-one}
+use native.Mathlib.Omega.{arith}
+use lib.ListN.{length}
+use Rattle.words.specs.Factorial.{factorial}
+use Rattle.words.proofs.Factorial.{factorial-positive}
+use Rattle.arrangements.specs.Permutation.{Permutation}
+use Rattle.arrangements.specs.Rank.{lastly, unrankOf}
+use Rattle.arrangements.proofs.Unrank.{unrank-is-a-permutation, unrank-next, quotient-next}
+use Rattle.permutation.specs.declared.Permutation.{Permutation as Record}
+use Rattle.permutation.specs.Record.{capacity, wordOf, recordOf, Holds}
+use Rattle.permutation.proofs.Arranging.{word-of-record}
+
+unfoldable pub made : ℕ → ℕ → List ℕ
+made j r = unrankOf j (r % factorial j)
+
+pub make-none : (r : ℕ) → recordOf [] ≡ recordOf (made 0 r)
+unfolding made unrankOf
+make-none r = refl
+
+pub rest-none : (r : ℕ) → r ≡ r / factorial 0
+unfolding factorial
+rest-none r = sym (div-one r)
+
+made-permutation : (j r : ℕ) → Permutation j (made j r)
+unfolding made
+made-permutation j r = unrank-is-a-permutation j (r % factorial j) (mod-lt r (factorial-positive j))
+
+pub made-holds : (j r : ℕ) (p : Record) → p ≡ recordOf (made j r) → j ≤ capacity → Holds p × (p .len ≡ j)
+made-holds j r p e l =
+    subst⁻¹ (λ (q : Record). Holds q × (q .len ≡ j)) e
+    (record { short = omega (arith, made-permutation j r .long); permutation = permutation }, made-permutation j r .long)
+  where
+    permutation : Permutation (length (made j r)) (wordOf (recordOf (made j r)))
+    permutation = subst⁻¹ (λ (w : List ℕ). Permutation (length (made j r)) w) (word-of-record (made j r)) (subst⁻¹ (λ (n : ℕ). Permutation n (made j r)) (made-permutation j r .long) (made-permutation j r))
+
+module _ (j r rest : ℕ) (e : rest ≡ r / factorial j) where
+  pub make-more : (p q : Record) → p ≡ recordOf (made j r) → q ≡ recordOf (lastly (rest % (j + 1)) (wordOf p)) → q ≡ recordOf (made (j + 1) r)
+  unfolding made
+  make-more p q f g = g ∙ ap recordOf (ap₂ lastly (ap₂ (λ (a b : ℕ). a % b) e (add-one j)) (ap wordOf f ∙ word-of-record (made j r)) ∙ sym (unrank-next j r) ∙ ap (λ (n : ℕ). made n r) (sym (add-one j)))
+
+  pub rest-more : rest / (j + 1) ≡ r / factorial (j + 1)
+  rest-more = ap₂ (λ (a b : ℕ). a / b) e (add-one j) ∙ quotient-next j r ∙ ap (λ (n : ℕ). r / factorial n) (sym (add-one j))
+
+pub made-all : (n r : ℕ) → r < factorial n → made n r ≡ unrankOf n r
+unfolding made
+made-all n r h = ap (unrankOf n) (mod-eq-of-lt h)

@@ -1,0 +1,201 @@
+// The colex order of the permutations of up to twenty entries: rank, unrank and successor (document 01, "Permutations"; Knuth 7.2.1.2).
+ghost use mathlib.Core.Path.{_≡_};
+ghost use Prim.Native.Nat.{_%_, _≤_, _<_};
+ghost use Rattle.words.specs.Factorial.{factorial as factorialOf};
+ghost use Rattle.answers.specs.Says.{answerSays};
+ghost use Rattle.arrangements.specs.Rank.{rankOf, raise, lastly, unrankOf};
+ghost use Rattle.arrangements.specs.Step.{FirstFall, FirstGreater, turn, exchange, step};
+ghost use Rattle.permutation.specs.Record.{capacity, wordOf, recordOf, Holds, Arranges};
+ghost use Rattle.permutation_order.specs.Rules.{rankSays, unrankSays, successorSays};
+use answers::Answer;
+use answers::Refusal;
+use permutation::Arranged;
+use permutation::CAPACITY;
+use permutation::Permutation;
+use permutation::Verdict;
+
+// The sum of d_j times j!, where d_j counts the smaller entries left of place j.
+fn weight(p: Permutation) -> u64
+    requires { ⌜ p .len ≤ capacity ⌝ }
+    ensures { λ r. ⌜ r ≡ rankOf (wordOf p) ⌝ }
+{
+    let n = p.len;
+    let entries = p.entries;
+    let table = count::factorials();
+    let mut sum = 0u64;
+    let mut j = 0u64;
+    while j < n {
+        let x = entries[j as usize];
+        let f = table[j as usize];
+        sum += permutation::smaller(entries, 0, j, x) * f;
+        j += 1;
+    }
+    sum
+}
+
+// The rank among the permutations of its length, in colex order: 1 and 10 of the record.
+pub fn rank(p: Permutation) -> Answer
+    ensures { λ r. ⌜ answerSays r ≡ rankSays p ⌝ }
+{
+    match permutation::checked(p) {
+        Verdict::Refused(e) => Answer::Refused(e),
+        Verdict::Given => Answer::Is(weight(p)),
+    }
+}
+
+// x, raised by one from d up: so nothing is d.
+fn raised(d: u64, x: u64) -> u64
+    requires { ⌜ x < capacity ⌝ }
+    ensures { λ r. ⌜ r ≡ raise d x ⌝ }
+{
+    if x < d {
+        return x;
+    }
+    x + 1
+}
+
+// The permutation of one entry more whose last entry is d: the others from d up are raised by one to make room for it.
+fn with_last(p: Permutation, d: u64) -> Permutation
+    requires { ⌜ Holds p × (p .len < capacity) ⌝ }
+    ensures { λ r. ⌜ r ≡ recordOf (lastly d (wordOf p)) ⌝ }
+{
+    let n = p.len;
+    let mut out = [0u64; CAPACITY];
+    let mut i = 0u64;
+    while i < n {
+        let x = p.entries[i as usize];
+        out[i as usize] = raised(d, x);
+        i += 1;
+    }
+    out[n as usize] = d;
+    Permutation {
+        entries: out,
+        len: n + 1,
+    }
+}
+
+// The permutation of n entries of rank r, from the digits of r in the factorial number system, the lowest first.
+fn unranked(n: u64, r: u64) -> Permutation
+    requires { ⌜ n ≤ capacity ⌝ }
+    ensures { λ p. ⌜ p ≡ recordOf (unrankOf n (r % factorialOf n)) ⌝ }
+{
+    let mut p = Permutation {
+        entries: [0u64; CAPACITY],
+        len: 0,
+    };
+    let mut rest = r;
+    let mut j = 0u64;
+    while j < n {
+        let k = j + 1;
+        p = with_last(p, rest % k);
+        rest = rest / k;
+        j = k;
+    }
+    p
+}
+
+// The permutation of n entries of rank r: 1 for n, 3 if there are not so many.
+pub fn unrank(n: u64, r: u64) -> Arranged
+    ensures { λ a. ⌜ Arranges (unrankSays n r) a ⌝ }
+{
+    if n > CAPACITY as u64 {
+        return permutation::refused(Refusal::TooWide);
+    }
+    if r >= count::factorial(n) {
+        return permutation::refused(Refusal::NoSuchRank);
+    }
+    permutation::given(unranked(n, r))
+}
+
+// The lowest place whose entry is smaller than the one before it; the length if all entries rise.
+fn first_fall(p: Permutation) -> u64
+    requires { ⌜ Holds p ⌝ }
+    ensures { λ k. ⌜ FirstFall (p .len) (wordOf p) k ⌝ }
+{
+    let n = p.len;
+    let mut k = 1u64;
+    while k < n {
+        let before = k - 1;
+        if p.entries[k as usize] < p.entries[before as usize] {
+            return k;
+        }
+        k += 1;
+    }
+    n
+}
+
+// The lowest place below k whose entry is greater than that at k; k if there is none.
+fn first_greater(p: Permutation, k: u64) -> u64
+    requires { ⌜ Holds p × (k < p .len) ⌝ }
+    ensures { λ i. ⌜ FirstGreater (wordOf p) k i ⌝ }
+{
+    let x = p.entries[k as usize];
+    let mut i = 0u64;
+    while i < k {
+        if x < p.entries[i as usize] {
+            return i;
+        }
+        i += 1;
+    }
+    k
+}
+
+// Place j, if the places below k are turned round.
+fn turned(k: u64, j: u64) -> u64
+    ensures { λ r. ⌜ r ≡ turn k j ⌝ }
+{
+    if j < k {
+        return k - 1 - j;
+    }
+    j
+}
+
+// Place j, if the places i and k change places.
+fn exchanged(i: u64, k: u64, j: u64) -> u64
+    ensures { λ r. ⌜ r ≡ exchange i k j ⌝ }
+{
+    if j == i {
+        return k;
+    }
+    if j == k {
+        return i;
+    }
+    j
+}
+
+// The entries at the places i and k exchanged, and then those below place k turned round.
+fn stepped(p: Permutation, i: u64, k: u64) -> Permutation
+    requires { ⌜ Holds p × (i < k) × (k < p .len) ⌝ }
+    ensures { λ r. ⌜ r ≡ recordOf (step i k (wordOf p)) ⌝ }
+{
+    let n = p.len;
+    let mut out = [0u64; CAPACITY];
+    let mut j = 0u64;
+    while j < n {
+        let from = exchanged(i, k, turned(k, j));
+        out[j as usize] = p.entries[from as usize];
+        j += 1;
+    }
+    Permutation {
+        entries: out,
+        len: n,
+    }
+}
+
+// The next permutation in colex order: 1 and 10 of the record, 4 if there is none.
+pub fn successor(p: Permutation) -> Arranged
+    ensures { λ r. ⌜ Arranges (successorSays p) r ⌝ }
+{
+    match permutation::checked(p) {
+        Verdict::Refused(e) => permutation::refused(e),
+        Verdict::Given => {
+            let n = p.len;
+            let k = first_fall(p);
+            if k == n {
+                return permutation::refused(Refusal::Last);
+            }
+            let i = first_greater(p, k);
+            permutation::given(stepped(p, i, k))
+        }
+    }
+}
