@@ -7,6 +7,7 @@
 --   set-bits-mod    they are those: the first so many
 --   set-bits-div    a / 2 ^ n has the others, each lowered by n
 --   position-is-how-many-below    the symbol at position p has p symbols below it
+--   position-is-how-many-up-to    and p + 1 that are not above it
 --   set-bits-ones    2 ^ n - 1 has the numbers below n
 --   lowest-symbol, without-lowest    the trailing zeros are the first symbol, and a & (a - 1) has the others
 use mathlib.Core.Path.{_≡_, refl, sym, ap, ap₂, subst, _∙_}
@@ -81,6 +82,14 @@ position-is-how-many-below (x ∷ xs) zero d m h =
 position-is-how-many-below (x ∷ xs) (suc p) d m h =
     let l : x < getD xs p d = from-at (suc x) xs p d (rest x xs m) (omega arith) in
     simp (lt-ltb x (getD xs p d) l) (omega (arith, position-is-how-many-below xs p d (tail x xs m) (omega arith)))
+
+pub position-is-how-many-up-to : (w : List ℕ) (p d : ℕ) → Monotone Forbidden w → p < length w → smallerIn (suc (getD w p d)) w ≡ suc p
+unfolding smallerIn
+position-is-how-many-up-to [] p d m h = absurd (not-suc-le-zero h)
+position-is-how-many-up-to (x ∷ xs) zero d m h = smaller-below-from (suc x) (x ∷ []) xs (le-refl (suc x), tt) (rest x xs m)
+position-is-how-many-up-to (x ∷ xs) (suc p) d m h =
+    let l : x < suc (getD xs p d) = omega (arith, from-at (suc x) xs p d (rest x xs m) (omega arith)) in
+    simp (lt-ltb x (suc (getD xs p d)) l) (omega (arith, position-is-how-many-up-to xs p d (tail x xs m) (omega arith)))
 
 -- ---- the numbers below n
 

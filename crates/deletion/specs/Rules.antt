@@ -1,0 +1,39 @@
+-- What each call answers, for all inputs, in document 01's numbers: its checks in 01's order, and then the value. Assumes nothing.
+--   Removed    a sign, a symbol and an index
+--   deletionSign F p    the sign of a deletion at position p: (-1)^p for Forbidden, plus for Allowed
+--   deleteSays x p    7; the sign, the symbol at position p, and the index of the word without it
+--   deletedSays    what each case of an answer means
+use Prim.Native.Nat.{ℕ}
+use lib.Dec.{leb}
+use lib.ListN.{length, getD}
+use Rattle.words.specs.declared.Family.{Family}
+use Rattle.words.specs.declared.Family.the-variants.{Forbidden, Allowed}
+use Rattle.answers.specs.declared.Sign.{Sign}
+use Rattle.answers.specs.declared.Sign.the-variants.{Plus}
+use Rattle.answers.specs.declared.Index.{Index}
+use Rattle.answers.specs.Signs.{signOf}
+use Rattle.answers.specs.Says.{Says, refuses, gives, refusedIf, numberOf}
+use Rattle.answers.specs.Terms.{indexOf, wordOf}
+use Rattle.deletion.specs.declared.Deleted.{Deleted}
+use Rattle.deletion.specs.declared.Deleted.the-variants as deleted
+use Rattle.deletion.specs.Without.{without}
+
+-- ---- deletion
+
+pub record Removed : Type 0 where
+  pub sign : Sign
+  pub symbol : ℕ
+  pub index : Index
+
+abbrev pub deletionSign : Family → ℕ → Sign
+deletionSign Forbidden p = signOf p
+deletionSign Allowed p = Plus
+
+abbrev pub deleteSays : Index → ℕ → Says Removed
+deleteSays x p =
+    refusedIf (leb (length (wordOf x)) p) 7
+    (gives (record { sign = deletionSign (x .family) p; symbol = getD (wordOf x) p 0; index = indexOf (x .family) (without p (wordOf x)) }))
+
+abbrev pub deletedSays : Deleted → Says Removed
+deletedSays (deleted.At s a x) = gives (record { sign = s; symbol = a; index = x })
+deletedSays (deleted.Refused e) = refuses (numberOf e)

@@ -1,0 +1,38 @@
+// Deleting a symbol from a term, the complement of a set of symbols, and the stabilizer of a term (document 01, "Terms and their order").
+ghost use mathlib.Core.Path.{_≡_};
+ghost use Rattle.deletion.specs.Rules.{deletedSays, deleteSays};
+use answers::Index;
+use answers::Refusal;
+use answers::Sign;
+use words::Family;
+
+// A sign, the symbol that was deleted, and the index of what is left, or why there are none.
+pub enum Deleted {
+    At(Sign, u64, Index),
+    Refused(Refusal),
+}
+
+// The term without the symbol at position p: 7 if it has no such position. The sign is that of moving the symbol to the front, (-1)^p for
+// Forbidden and plus for Allowed; the symbol is unshifted. The shift of every later symbol of an Allowed term falls by one, so these slide down.
+pub fn delete(x: Index, p: u64) -> Deleted
+    ensures { λ r. ⌜ deletedSays r ≡ deleteSays x p ⌝ }
+{
+    let family = x.family;
+    let bits = x.bits;
+    if bits::count_ones(bits) <= p {
+        return Deleted::Refused(Refusal::Outside);
+    }
+    let s = bits::nth(bits, p);
+    let below = bits & bits::low_mask(s);
+    let above = bits::shr_total(bits, s + 1);
+    match family {
+        Family::Forbidden => {
+            let bits = below | bits::shl_total(above, s + 1);
+            Deleted::At(answers::from_parity(p), s, Index { family, bits })
+        }
+        Family::Allowed => {
+            let bits = below | bits::shl_total(above, s);
+            Deleted::At(Sign::Plus, s - p, Index { family, bits })
+        }
+    }
+}
