@@ -1,2 +1,5 @@
 pub mod Without
 pub mod Deleting
+pub mod Absent
+pub mod Passes
+pub mod Complementing

@@ -1,2 +1,3 @@
 pub mod Without
+pub mod Absent
 pub mod Rules

@@ -1,9 +1,11 @@
 // Deleting a symbol from a term, the complement of a set of symbols, and the stabilizer of a term (document 01, "Terms and their order").
 ghost use mathlib.Core.Path.{_≡_};
-ghost use Rattle.deletion.specs.Rules.{deletedSays, deleteSays};
+ghost use Rattle.answers.specs.Says.{signedSays};
+ghost use Rattle.deletion.specs.Rules.{deletedSays, deleteSays, complementSays};
 use answers::Index;
 use answers::Refusal;
 use answers::Sign;
+use answers::Signed;
 use words::Family;
 
 // A sign, the symbol that was deleted, and the index of what is left, or why there are none.
@@ -35,4 +37,29 @@ pub fn delete(x: Index, p: u64) -> Deleted
             Deleted::At(Sign::Plus, s - p, Index { family, bits })
         }
     }
+}
+
+// The bits of the odd symbols.
+const ODD: u64 = 0xAAAA_AAAA_AAAA_AAAA;
+
+// The symbols below n that a Forbidden term does not have: 6 for Allowed; 1 if n is above 64; 7 if a symbol is n or more. The sign is that
+// of the term followed by its complement. There a symbol s at position i is larger than s - i of the complement; the parity of the sum of
+// these is that of the number of odd symbols and half the degree.
+pub fn complement(x: Index, n: u64) -> Signed
+    ensures { λ r. ⌜ signedSays r ≡ complementSays x n ⌝ }
+{
+    let family = x.family;
+    let bits = x.bits;
+    if let Family::Allowed = family {
+        return Signed::Refused(Refusal::FamilyDiffers);
+    }
+    if 64 < n {
+        return Signed::Refused(Refusal::TooWide);
+    }
+    if bits::reaches(bits, n) {
+        return Signed::Refused(Refusal::Outside);
+    }
+    let larger = bits::count_ones(bits & ODD) + bits::count_ones(bits) / 2;
+    let bits = bits::low_mask(n) - bits;
+    Signed::At(answers::from_parity(larger), Index { family, bits })
 }

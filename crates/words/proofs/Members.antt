@@ -1,4 +1,5 @@
 -- Which symbols a number's set has: the positions of its ones. All at any width. Assumes nothing.
+--   in-from    what stands in a list from n up is n or more
 --   in-set-is-digit    s is a symbol of a exactly if digit s of a is 1
 --   in-and, in-or    a & b has the symbols of both, a | b those of either
 --   in-complement    the complement in n digits has the numbers below n that are no symbols of a
@@ -23,7 +24,7 @@ use Rattle.words.proofs.SetLaws.{raised, mod-below, set-bits-split}
 
 -- ---- a symbol is a digit
 
-in-from : (n x : ℕ) (w : List ℕ) → From n w → In x w → n ≤ x
+pub in-from : (n x : ℕ) (w : List ℕ) → From n w → In x w → n ≤ x
 in-from n x [] f i = absurd i
 in-from n x (y ∷ ys) f (inl e) = omega (arith, f .0, e)
 in-from n x (y ∷ ys) f (inr i) = in-from n x ys (f .1) i

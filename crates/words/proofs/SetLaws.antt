@@ -3,6 +3,7 @@
 --   set-bits-split    the set of a is that of a % 2 ^ n, and above it that of a / 2 ^ n, raised by n
 --   set-bits-times    a * 2 ^ n has the symbols of a, each raised by n
 --   mod-below    the symbols of a % 2 ^ n are below n
+--   smaller-below-from    of symbols below n, followed by others from n up, those below n are smaller than n
 --   how-many-below    a % 2 ^ n has as many symbols as a has below n
 --   set-bits-mod    they are those: the first so many
 --   set-bits-div    a / 2 ^ n has the others, each lowered by n
@@ -48,7 +49,7 @@ pub set-bits-times : (n a : ℕ) → setBits (a * 2 ^ n) ≡ map (λ x. x + n) (
 set-bits-times n a =
     ap setBits (sym (add-zero (a * 2 ^ n))) ∙ set-bits-halves n a 0 (pow-pos n) ∙ ap (λ (w : List ℕ). w ++ map (λ x. x + n) (setBits a)) set-bits-zero
 
-smaller-below-from : (n : ℕ) (u v : List ℕ) → Below n u → From n v → smallerIn n (u ++ v) ≡ length u
+pub smaller-below-from : (n : ℕ) (u v : List ℕ) → Below n u → From n v → smallerIn n (u ++ v) ≡ length u
 unfolding smallerIn
 smaller-below-from n [] [] b f = refl
 smaller-below-from n [] (y ∷ ys) b f = simp (le-ltb y n (f .0)) (omega (arith, smaller-below-from n [] ys b (f .1)))
