@@ -2,20 +2,20 @@
 --   complement-of-set    of a Forbidden index, by its set
 --   within-mask    a set without a symbol from n up is within the mask of n ones
 --   complement-gives    with a sign of the right parity and the digits left of n ones, the answer is that of the complement
-use mathlib.Core.Path.{_≡_, refl, sym, ap, ap₂, subst, _∙_}
-use mathlib.Core.Bool.{Bool, false}
+use mathlib.Core.Path.{_≡_, sym, ap, ap₂, _∙_}
+use mathlib.Core.Bool.{false}
 use mathlib.Core.List.{List, _++_}
 use Prim.Native.Nat.{ℕ, suc, _+_, _-_, _/_, _^_, _≤_, _<_}
 use native.Mathlib.Omega.{arith}
 use borrow.Author.Tests.{le-ltb}
-use lib.Dec.{ltb, eqb}
+use lib.Dec.{eqb}
 use lib.ListN.{length}
 use lib.Bits.{bitAnd}
 use Rattle.words.specs.declared.Family.{Family}
 use Rattle.words.specs.declared.Family.the-variants.{Forbidden}
 use Rattle.words.specs.Pick.{pick}
 use Rattle.words.specs.Word.{shifted}
-use Rattle.words.specs.Inversions.{inversions, crossings, parity}
+use Rattle.words.specs.Inversions.{inversions, parity}
 use Rattle.words.specs.Bits.{bitsOf, setBits}
 use Rattle.words.proofs.Bits.{bits-fit, bits-of-set, set-bits-monotone, set-bits-long}
 use Rattle.words.proofs.Shifted.{shifted-none}
@@ -33,7 +33,7 @@ use Rattle.bits.proofs.Member.{reaches-not}
 use Rattle.deletion.specs.Absent.{absent}
 use Rattle.deletion.specs.Rules.{complementIn, complementSays}
 use Rattle.deletion.proofs.Absent.{absent-monotone, absent-is-complement}
-use Rattle.deletion.proofs.Passes.{oddMask, oddsIn, odd-digits, crossings-parity}
+use Rattle.deletion.proofs.Passes.{oddMask, odd-digits, crossings-parity}
 
 pub complement-of-set : (x : Index) (n : ℕ) → x .family ≡ Forbidden → complementSays x n ≡ complementIn Forbidden (setBits (x .bits)) n
 complement-of-set x n f = ap₂ (λ (F : Family) (w : List ℕ). complementIn F w n) f (word-of-set x f)

@@ -3,9 +3,10 @@
 --   deletionSign F p    the sign of a deletion at position p: (-1)^p for Forbidden, plus for Allowed
 --   deleteSays x p    7; the sign, the symbol at position p, and the index of the word without it
 --   complementSays x n    6 for Allowed; 1 if n is above 64; 7 if a symbol is n or more; the sign of the word followed by its complement, and the index of that
+--   stabilizerSays x    9; the stabilizer
 --   deletedSays    what each case of an answer means
 use mathlib.Core.List.{List, _++_}
-use Prim.Native.Nat.{ℕ}
+use Prim.Native.Nat.{ℕ, _^_}
 use lib.Dec.{leb, ltb}
 use lib.ListN.{length, getD}
 use Rattle.words.specs.declared.Family.{Family}
@@ -22,6 +23,7 @@ use Rattle.deletion.specs.declared.Deleted.{Deleted}
 use Rattle.deletion.specs.declared.Deleted.the-variants as deleted
 use Rattle.deletion.specs.Without.{without}
 use Rattle.deletion.specs.Absent.{absent}
+use Rattle.deletion.specs.Multiplicities.{stabilizerOf}
 
 -- ---- deletion
 
@@ -49,6 +51,11 @@ complementIn Forbidden w n =
 
 abbrev pub complementSays : Index → ℕ → Says Term
 complementSays x n = complementIn (x .family) (wordOf x) n
+
+-- ---- the stabilizer
+
+abbrev pub stabilizerSays : Index → Says ℕ
+stabilizerSays x = refusedIf (leb (2 ^ 64) (stabilizerOf (wordOf x))) 9 (gives (stabilizerOf (wordOf x)))
 
 -- ---- what each case of an answer means
 

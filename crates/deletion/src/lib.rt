@@ -1,7 +1,8 @@
 // Deleting a symbol from a term, the complement of a set of symbols, and the stabilizer of a term (document 01, "Terms and their order").
 ghost use mathlib.Core.Path.{_≡_};
-ghost use Rattle.answers.specs.Says.{signedSays};
-ghost use Rattle.deletion.specs.Rules.{deletedSays, deleteSays, complementSays};
+ghost use Rattle.answers.specs.Says.{answerSays, signedSays};
+ghost use Rattle.deletion.specs.Rules.{deletedSays, deleteSays, complementSays, stabilizerSays};
+use answers::Answer;
 use answers::Index;
 use answers::Refusal;
 use answers::Sign;
@@ -62,4 +63,29 @@ pub fn complement(x: Index, n: u64) -> Signed
     let larger = bits::count_ones(bits & ODD) + bits::count_ones(bits) / 2;
     let bits = bits::low_mask(n) - bits;
     Signed::At(answers::from_parity(larger), Index { family, bits })
+}
+
+// The product of the factorials of the multiplicities of the term's symbols: 9 if it is 2^64 or more. Equal symbols stand in a row, so each
+// symbol multiplies it by how often it has occurred.
+pub fn stabilizer(x: Index) -> Answer
+    ensures { λ r. ⌜ answerSays r ≡ stabilizerSays x ⌝ }
+{
+    let family = x.family;
+    let mut left = x.bits;
+    let mut i: u64 = 0;
+    let mut previous: u64 = 0;
+    let mut run: u64 = 0;
+    let mut product: u64 = 1;
+    while left != 0 {
+        let symbol = bits::lowest(left) - words::shift(family, i);
+        run = if symbol == previous { run + 1 } else { 1 };
+        if u64::MAX / run < product {
+            return Answer::Refused(Refusal::TooBig);
+        }
+        product *= run;
+        previous = symbol;
+        left = bits::without_lowest(left);
+        i += 1;
+    }
+    Answer::Is(product)
 }
