@@ -44,11 +44,11 @@ rejoined a s k mask above up h g l m e f =
     let high : up ≡ a / 2 ^ (s + 1) * 2 ^ k = f ∙ ap (λ (q : ℕ). q * 2 ^ k % 2 ^ 64) e ∙ above-fits a s k h l in
     ap₂ bitOr low high ∙ or-shifted-r (a / 2 ^ (s + 1)) k (a % 2 ^ s) (omega (arith, mod-lt a (pow-pos s), pow-mono g))
 
-pub deletion-gives : (x : Index) (F : Family) (p s y k mask above up : ℕ) (g : Sign) → x .family ≡ F → x .bits < 2 ^ 64
+pub deletion-gives : (x : Index) (F : Family) (p k : ℕ) {s y mask above up : ℕ} {g : Sign} → x .family ≡ F → x .bits < 2 ^ 64
     → p < length (setBits (x .bits)) → s ≡ getD (setBits (x .bits)) p 64 → g ≡ deletionSign F p → y ≡ s - shift F p → k + shift F 1 ≡ s + 1
     → LowMask s mask → above ≡ x .bits / 2 ^ (s + 1) → up ≡ above * 2 ^ k % 2 ^ 64
     → gives (record { sign = g; symbol = y; index = record { family = x .family; bits = bitOr (bitAnd (x .bits) mask) up } }) ≡ deleteSays x p
-deletion-gives x F p s y k mask above up g f h l e q v w m n o =
+deletion-gives x F p k {s} {y} {mask} {above} {up} {g} f h l e q v w m n o =
     let t : leb (length (wordOf x)) p ≡ false = lt-leb (length (wordOf x)) p (omega (arith, word-long x)) in
     let i : g ≡ deletionSign (x .family) p = q ∙ ap (λ (G : Family). deletionSign G p) (sym f) in
     let j : y ≡ getD (wordOf x) p 0 = v ∙ symbol-at x p s (shift F p) l e (ap (λ (G : Family). shift G p) (sym f)) in

@@ -38,13 +38,13 @@ pub record Occurs (w : List ℕ) (i x now : ℕ) : Type 0 where
   pub times : now ≡ suc (multiplicity x (take i w))
   pub short : now ≤ i + 1
 
-module _ (w : List ℕ) (i previous run product x now : ℕ) (p : Running w i previous run product) where
-  pub occurs-again : i < length w → x ≡ getD w i 0 → x ≡ previous → now ≡ run + 1 → Occurs w i x now
+module _ {w : List ℕ} {i previous run product : ℕ} (p : Running w i previous run product) where
+  pub occurs-again : {x now : ℕ} → i < length w → x ≡ getD w i 0 → x ≡ previous → now ≡ run + 1 → Occurs w i x now
   occurs-again h s e f =
       record { within = h; symbol = s; times = omega (arith, p .often, ap (λ (y : ℕ). multiplicity y (take i w)) e); short = omega (arith, p .short) }
 
-  pub occurs-anew : i < length w → x ≡ getD w i 0 → (x ≡ previous → ⊥) → now ≡ 1 → Occurs w i x now
-  occurs-anew h s n f =
+  pub occurs-anew : {x now : ℕ} → i < length w → x ≡ getD w i 0 → (x ≡ previous → ⊥) → now ≡ 1 → Occurs w i x now
+  occurs-anew {x} h s n f =
       let l : previous < x = ⊎-elim (λ q. absurd (n (sym q))) (λ q. q) (eq-or-lt-of-le (subst (λ (y : ℕ). previous ≤ y) (sym s) (p .next h))) in
       record {
         within = h;
@@ -53,16 +53,16 @@ module _ (w : List ℕ) (i previous run product x now : ℕ) (p : Running w i pr
         short = omega arith;
       }
 
-  with-it : Occurs w i x now → take (i + 1) w ≡ take i w ++ x ∷ []
+  with-it : {x now : ℕ} → Occurs w i x now → take (i + 1) w ≡ take i w ++ x ∷ []
   with-it o = ap (λ (j : ℕ). take j w) (add-one i) ∙ take-suc w i 0 (o .within) ∙ ap (λ (y : ℕ). take i w ++ y ∷ []) (sym (o .symbol))
 
-  passed-now : Occurs w i x now → product * now ≡ stabilizerBelow (ceilingOf w) (take (i + 1) w)
-  passed-now o =
+  passed-now : {x now : ℕ} → Occurs w i x now → product * now ≡ stabilizerBelow (ceilingOf w) (take (i + 1) w)
+  passed-now {x} o =
       let l : x < ceilingOf w = omega (arith, o .symbol, below-at (ceilingOf w) w .0 (below-ceiling w) i (o .within)) in
       ap₂ (λ (a b : ℕ). a * b) (p .passed) (o .times) ∙ sym (ap (stabilizerBelow (ceilingOf w)) (with-it o) ∙ stabilizer-more (ceilingOf w) x (take i w) l)
 
-  pub running-turn : Monotone Allowed w → Occurs w i x now → Running w (i + 1) x now (product * now)
-  running-turn m o =
+  pub running-turn : {x now : ℕ} → Monotone Allowed w → Occurs w i x now → Running w (i + 1) x now (product * now)
+  running-turn {x} m o =
       let l : previous ≤ x = omega (arith, o .symbol, p .next (o .within)) in
       record {
         low = subst (Below (suc x)) (sym (with-it o)) (below-with (suc x) x (take i w) (below-more (suc previous) (suc x) (take i w) (omega arith) (p .low)) (omega arith));
@@ -72,7 +72,7 @@ module _ (w : List ℕ) (i previous run product x now : ℕ) (p : Running w i pr
         passed = passed-now o;
       }
 
-  pub running-past : (n : ℕ) → Occurs w i x now → n ≤ product * now → n ≤ stabilizerOf w
+  pub running-past : {x now : ℕ} (n : ℕ) → Occurs w i x now → n ≤ product * now → n ≤ stabilizerOf w
   running-past n o h =
       le-trans (subst (λ (k : ℕ). n ≤ k) (passed-now o) h)
       (subst (λ (u : List ℕ). stabilizerBelow (ceilingOf w) (take (i + 1) w) ≤ stabilizerBelow (ceilingOf w) u) (take-append-drop (i + 1) w)

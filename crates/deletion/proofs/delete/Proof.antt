@@ -63,13 +63,13 @@ sub-t18 c =
 
 returns-2 : tie.Need-returns-2
 returns-2 c =
-    deletion-gives (c .before .before .before .before .before .before .before .before .before .args .x) Forbidden (c .before .before .before .before .before .before .before .before .before .args .p) (c .before .before .before .before .before .before .nth .result) _ _ (c .before .before .before .before .before .low-mask .result) (c .before .before .before .before .shr-total .result) (c .before .shl-total .result) (c .from-parity .result)
+    deletion-gives (c .before .before .before .before .before .before .before .before .before .args .x) Forbidden (c .before .before .before .before .before .before .before .before .before .args .p) _
     (c .before .before .enum-told .given .1) (search needs) (omega arith) (c .before .before .before .before .before .before .nth .ensures) (c .from-parity .ensures) (omega arith) (omega arith)
     (c .before .before .before .before .before .low-mask .ensures) (c .before .before .before .before .shr-total .ensures) (c .before .shl-total .ensures)
 
 returns-3 : tie.Need-returns-3
 returns-3 c =
-    deletion-gives (c .before .before .before .before .before .before .before .before .args .x) Allowed (c .before .before .before .before .before .before .before .before .args .p) (c .before .before .before .before .before .nth .result) _ _ (c .before .before .before .before .low-mask .result) (c .before .before .before .shr-total .result) (c .shl-total2 .result) _
+    deletion-gives (c .before .before .before .before .before .before .before .before .args .x) Allowed (c .before .before .before .before .before .before .before .before .args .p) _
     (c .before .enum-told2 .given .1) (search needs) (omega arith) (c .before .before .before .before .before .nth .ensures) refl (omega arith) (omega arith)
     (c .before .before .before .before .low-mask .ensures) (c .before .before .before .shr-total .ensures) (c .shl-total2 .ensures)
 
