@@ -1,7 +1,9 @@
 -- The symbols that a word leaves out. Assumes nothing.
 --   in-absent    they are the numbers below n that do not stand in the word
---   absent-monotone    they increase
+--   absent-below, absent-monotone    they are below n, and increase
 --   absent-is-complement    as a set, they are what the digits of the word leave of n ones
+--   absent-twice    what they leave out is the word
+--   multiplicity-one    a symbol of a word without repeats stands there once
 --   once    a word without repeats and what it leaves out have every number below n once
 --   passed    of the numbers below a symbol at position p, all but p are left out
 use mathlib.Core.Path.{_≡_, refl, sym, subst}
@@ -22,17 +24,13 @@ use Rattle.words.specs.Bits.{setBits}
 use Rattle.words.proofs.Positions.{below-at}
 use Rattle.words.proofs.Bits.{From, from-zero, from-le, in-front, rest, tail, set-bits-monotone}
 use Rattle.words.proofs.SetLaws.{smaller-below-from, position-is-how-many-below}
-use Rattle.words.proofs.Members.{in-from, in-complement, same-members}
+use Rattle.words.proofs.Members.{in-from, in-below, below-of-in, in-complement, same-members}
 use Rattle.words.proofs.Inversions.{multiplicity-append, multiplicity-none, smaller-step}
 use Rattle.bits.specs.Member.{holds}
-use Rattle.bits.proofs.Member.{holds-is-in}
+use Rattle.bits.proofs.Member.{holds-is-in, holds-not}
 use Rattle.deletion.specs.Absent.{absentFrom, absent}
 
 -- ---- which they are
-
--- a test of membership that fails
-not-in : (s : ℕ) (w : List ℕ) → holds s w ≡ false → In s w → ⊥
-not-in s w e i = let f : holds s w ≡ true = holds-is-in s w .1 i in let z : _≡_ {A = ℕ} 0 1 = cc in omega arith
 
 -- s is one of the d numbers from i up that w has not
 record LeftOut (d i : ℕ) (w : List ℕ) (s : ℕ) : Type 0 where
@@ -52,7 +50,7 @@ in-absent-from (suc d) i w s = go (holds i w) refl (in-absent-from d (suc i) w s
     narrower l h = record { from = h; to = omega (arith, l .to); out = l .out }
 
     is-first : holds i w ≡ false → s ≡ i → LeftOut (suc d) i w s
-    is-first e q = record { from = omega arith; to = omega arith; out = λ j. not-in i w e (subst (λ (x : ℕ). In x w) q j) }
+    is-first e q = record { from = omega arith; to = omega arith; out = λ j. holds-not i w .0 e (subst (λ (x : ℕ). In x w) q j) }
 
     go : (t : Bool) → holds i w ≡ t → In s (absentFrom d (suc i) w) ↔ LeftOut d (suc i) w s
         → In s (pick t (absentFrom d (suc i) w) (i ∷ absentFrom d (suc i) w)) ↔ LeftOut (suc d) i w s
@@ -65,6 +63,9 @@ in-absent-from (suc d) i w s = go (holds i w) refl (in-absent-from d (suc i) w s
 pub in-absent : (n : ℕ) (w : List ℕ) (s : ℕ) → In s (absent n w) ↔ ((s < n) × (In s w → ⊥))
 in-absent n w s =
     (λ h. let l = in-absent-from n 0 w s .0 h in (omega (arith, l .to), l .out), λ p. in-absent-from n 0 w s .1 (record { from = zero-le; to = omega (arith, p .0); out = p .1 }))
+
+pub absent-below : (n : ℕ) (w : List ℕ) → Below n (absent n w)
+absent-below n w = below-of-in n (absent n w) (λ s i. in-absent n w s .0 i .0)
 
 absent-from : (d i : ℕ) (w : List ℕ) → From i (absentFrom d i w)
 unfolding absentFrom
@@ -92,9 +93,19 @@ absent-is-complement n a b e =
     same-members (setBits b) (absent n (setBits a)) (set-bits-monotone b) (absent-monotone n (setBits a))
     (λ s. Iff·trans (in-complement n s a b e) (Iff·symm (in-absent n (setBits a) s)))
 
+pub absent-twice : (n : ℕ) (w : List ℕ) → Monotone Forbidden w → Below n w → absent n (absent n w) ≡ w
+absent-twice n w m b = same-members (absent n (absent n w)) w (absent-monotone n (absent n w)) m (λ s. (to s (holds s w) refl, from s))
+  where
+    to : (s : ℕ) (t : Bool) → holds s w ≡ t → In s (absent n (absent n w)) → In s w
+    to s true e i = holds-is-in s w .0 e
+    to s false e i = let o = in-absent n (absent n w) s .0 i in absurd (o .1 (in-absent n w s .1 (o .0, holds-not s w .0 e)))
+
+    from : (s : ℕ) → In s w → In s (absent n (absent n w))
+    from s i = in-absent n (absent n w) s .1 (in-below n s w b i, λ j. in-absent n w s .0 j .1 i)
+
 -- ---- how many they are
 
-multiplicity-one : (s : ℕ) (w : List ℕ) → Monotone Forbidden w → In s w → multiplicity s w ≡ 1
+pub multiplicity-one : (s : ℕ) (w : List ℕ) → Monotone Forbidden w → In s w → multiplicity s w ≡ 1
 unfolding multiplicity
 multiplicity-one s [] m i = absurd i
 multiplicity-one s (x ∷ xs) m (inl e) =
@@ -110,7 +121,7 @@ once n w s m h = go (holds s w) refl
         let i : In s w = holds-is-in s w .0 e in
         omega (arith, multiplicity-append s w (absent n w), multiplicity-one s w m i, multiplicity-none s (absent n w) (λ j. in-absent n w s .0 j .1 i))
     go false e =
-        let o : In s w → ⊥ = not-in s w e in
+        let o : In s w → ⊥ = holds-not s w .0 e in
         omega (arith, multiplicity-append s w (absent n w), multiplicity-none s w o, multiplicity-one s (absent n w) (absent-monotone n w) (in-absent n w s .1 (h, o)))
 
 smaller-all : (n : ℕ) (w : List ℕ) (x : ℕ) → Monotone Forbidden w → x ≤ n → smallerIn x w + smallerIn x (absent n w) ≡ x

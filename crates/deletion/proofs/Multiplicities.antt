@@ -1,26 +1,31 @@
 -- The stabilizer of a word, symbol by symbol. Assumes nothing.
 --   below-more, below-with    a higher bound, and one symbol more
---   not-there    a bound is no symbol
 --   below-ceiling    every symbol is below the ceiling
 --   stabilizer-over    the product over the numbers below any n that is above every symbol is the stabilizer
 --   multiplicity-of    a symbol that is put at the end stands there once more
 --   stabilizer-none    that of the empty word is 1
 --   stabilizer-more    one symbol more multiplies it by how often that symbol stands there then
+--   stabilizer-of-set    without repeats it is 1
 --   stabilizer-grows    it does not fall
 use mathlib.Core.Path.{_≡_, refl, sym, ap, ap₂, _∙_}
 use mathlib.Core.Logic.{_⊎_, inl, inr}
+use mathlib.Core.Bool.{Bool, true, false}
 use mathlib.Core.List.{List, [], _∷_, _++_}
 use Prim.Native.Nat.{ℕ, zero, suc, _+_, _-_, _*_, _≤_, _<_, max, zero-le}
 use native.Mathlib.Nat.{le-refl, zero-add, suc-add, mul-le-mul, one-mul, sub-add-cancel, eq-or-lt-of-le, le-max-left, le-max-right, max-le}
 use native.Mathlib.Omega.{arith}
 use borrow.Author.Tests.{eq-eqb, ne-eqb}
-use Rattle.words.specs.Word.{Below}
+use Rattle.words.specs.declared.Family.the-variants.{Forbidden}
+use Rattle.words.specs.Word.{Monotone, Below}
 use Rattle.words.specs.Factorial.{factorial}
-use Rattle.words.specs.HowMany.{In}
 use Rattle.words.specs.Inversions.{multiplicity}
 use Rattle.words.proofs.Factorial.{factorial-grows}
+use Rattle.words.proofs.Members.{in-below}
 use Rattle.words.proofs.Inversions.{multiplicity-append, multiplicity-none}
+use Rattle.bits.specs.Member.{holds}
+use Rattle.bits.proofs.Member.{holds-is-in, holds-not}
 use Rattle.deletion.specs.Multiplicities.{ceilingOf, stabilizerBelow, stabilizerOf}
+use Rattle.deletion.proofs.Absent.{multiplicity-one}
 
 pub below-more : (n m : ℕ) (w : List ℕ) → n ≤ m → Below n w → Below m w
 below-more n m [] h b = tt
@@ -29,11 +34,6 @@ below-more n m (x ∷ xs) h b = (omega (arith, b .0), below-more n m xs h (b .1)
 pub below-with : (n x : ℕ) (u : List ℕ) → Below n u → x < n → Below n (u ++ x ∷ [])
 below-with n x [] b h = (h, tt)
 below-with n x (y ∷ ys) b h = (b .0, below-with n x ys (b .1) h)
-
-pub not-there : (n : ℕ) (w : List ℕ) → Below n w → In n w → ⊥
-not-there n [] b i = i
-not-there n (x ∷ xs) b (inl e) = omega (arith, b .0)
-not-there n (x ∷ xs) b (inr i) = not-there n xs (b .1) i
 
 pub below-ceiling : (w : List ℕ) → Below (ceilingOf w) w
 unfolding ceilingOf
@@ -84,6 +84,17 @@ unfolding stabilizerBelow
 stabilizer-grows zero u v = le-refl 1
 stabilizer-grows (suc n) u v = mul-le-mul (factorial-grows (omega (arith, multiplicity-append n u v))) (stabilizer-grows n u v)
 
+-- ---- without repeats
+
+pub stabilizer-of-set : (n : ℕ) (w : List ℕ) → Monotone Forbidden w → stabilizerBelow n w ≡ 1
+unfolding stabilizerBelow factorial
+stabilizer-of-set zero w m = refl
+stabilizer-of-set (suc n) w m = ap₂ (λ (a b : ℕ). a * b) (go (holds n w) refl) (stabilizer-of-set n w m)
+  where
+    go : (t : Bool) → holds n w ≡ t → factorial (multiplicity n w) ≡ 1
+    go true e = ap factorial (multiplicity-one n w m (holds-is-in n w .0 e))
+    go false e = ap factorial (multiplicity-none n w (holds-not n w .0 e))
+
 -- ---- any bound does
 
 stabilizer-up : (n d : ℕ) (w : List ℕ) → Below n w → stabilizerBelow (d + n) w ≡ stabilizerBelow n w
@@ -91,7 +102,7 @@ unfolding stabilizerBelow factorial
 stabilizer-up n zero w b = ap (λ (m : ℕ). stabilizerBelow m w) (zero-add n)
 stabilizer-up n (suc d) w b =
     ap (λ (m : ℕ). stabilizerBelow m w) (suc-add d n)
-    ∙ ap₂ (λ (a b : ℕ). factorial a * b) (multiplicity-none (d + n) w (not-there (d + n) w (below-more n (d + n) w (omega arith) b))) (stabilizer-up n d w b)
+    ∙ ap₂ (λ (a b : ℕ). factorial a * b) (multiplicity-none (d + n) w (λ i. omega (arith, in-below n (d + n) w b i))) (stabilizer-up n d w b)
     ∙ one-mul (stabilizerBelow n w)
 
 ceiling-least : (n : ℕ) (w : List ℕ) → Below n w → ceilingOf w ≤ n

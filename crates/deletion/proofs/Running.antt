@@ -17,9 +17,10 @@ use Rattle.words.specs.declared.Family.the-variants.{Allowed}
 use Rattle.words.specs.Word.{Monotone, Below}
 use Rattle.words.specs.Inversions.{multiplicity}
 use Rattle.words.proofs.Positions.{below-at, monotone-at}
+use Rattle.words.proofs.Members.{in-below}
 use Rattle.words.proofs.Inversions.{multiplicity-none}
 use Rattle.deletion.specs.Multiplicities.{ceilingOf, stabilizerBelow, stabilizerOf}
-use Rattle.deletion.proofs.Multiplicities.{below-more, below-with, not-there, below-ceiling, multiplicity-of, stabilizer-none, stabilizer-more, stabilizer-grows}
+use Rattle.deletion.proofs.Multiplicities.{below-more, below-with, below-ceiling, multiplicity-of, stabilizer-none, stabilizer-more, stabilizer-grows}
 
 pub record Running (w : List ℕ) (i previous run product : ℕ) : Type 0 where
   pub low : Below (suc previous) (take i w)
@@ -49,7 +50,7 @@ module _ {w : List ℕ} {i previous run product : ℕ} (p : Running w i previous
       record {
         within = h;
         symbol = s;
-        times = omega (arith, multiplicity-none x (take i w) (not-there x (take i w) (below-more (suc previous) x (take i w) l (p .low))));
+        times = omega (arith, multiplicity-none x (take i w) (λ j. omega (arith, in-below (suc previous) x (take i w) (p .low) j)));
         short = omega arith;
       }
 

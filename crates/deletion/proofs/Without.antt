@@ -1,7 +1,8 @@
 -- A word without one of its positions, and the number of its set. Assumes nothing.
---   shifted-without    shifted again, an increasing word without position p is that word without it, with what stood above one shift lower
+--   shifted-without    shifted again, a word without position p is its shifted word without it, with what stood above one shift lower
 --   without-bits    in digits: what is below the symbol s of position p, and what is above it, moved to where it belongs
-use mathlib.Core.Path.{_≡_, refl, sym, ap, ap₂, _∙_}
+--   without-monotone    the word of an index without a position keeps its family's rule
+use mathlib.Core.Path.{_≡_, refl, sym, ap, ap₂, subst, _∙_}
 use mathlib.Core.List.{List, [], _∷_, _++_, map}
 use Prim.Native.Nat.{ℕ, zero, suc, _+_, _-_, _*_, _/_, _%_, _^_, _≤_, _<_, suc-le-suc}
 use native.Mathlib.Nat.{le-trans, le-of-suc-le-suc, not-suc-le-zero, sub-add-cancel, mod-lt}
@@ -17,6 +18,7 @@ use Rattle.words.specs.Inversions.{smallerIn}
 use Rattle.words.specs.Bits.{bitsOf, setBits}
 use Rattle.words.proofs.Word.{shift-le}
 use Rattle.words.proofs.Bits.{From, from-le, from-zero, rest, tail, bits-of-set, set-bits-monotone}
+use Rattle.words.proofs.Shifted.{shifted-monotone}
 use Rattle.words.proofs.Digits.{set-bits-halves}
 use Rattle.words.proofs.SetLaws.{raised, set-bits-split, set-bits-mod, how-many-below, position-is-how-many-below, position-is-how-many-up-to}
 use Rattle.deletion.specs.Without.{without}
@@ -66,14 +68,24 @@ digits-above a p s h e =
     sym (how-many-below (s + 1) a) ∙ ap (λ (j : ℕ). smallerIn j (setBits a)) (add-one s ∙ ap suc e) ∙ position-is-how-many-up-to (setBits a) p 64 (set-bits-monotone a) h in
     sym (ap (drop (suc p)) (set-bits-split (s + 1) a) ∙ drop-at (setBits (a % 2 ^ (s + 1))) (raised (s + 1) (setBits (a / 2 ^ (s + 1)))) (suc p) n)
 
-pub without-bits : (F : Family) (a p s k : ℕ) → p < length (setBits a) → s ≡ getD (setBits a) p 64 → k + shift F 1 ≡ s + 1
-    → a / 2 ^ (s + 1) * 2 ^ k + a % 2 ^ s ≡ bitsOf (shifted F (without p (unshifted F (setBits a))))
-without-bits F a p s k h e f =
+-- they are one set, if what is above is moved down by what its shift falls
+set-without : (F : Family) (a p s k : ℕ) → p < length (setBits a) → s ≡ getD (setBits a) p 64 → k + shift F 1 ≡ s + 1
+    → setBits (a / 2 ^ (s + 1) * 2 ^ k + a % 2 ^ s) ≡ shifted F (without p (unshifted F (setBits a)))
+set-without F a p s k h e f =
     let l : a % 2 ^ s < 2 ^ k = omega (arith, mod-lt a (pow-pos s), pow-mono {i = s} {j = k} (omega (arith, shift-le F 1))) in
-    sym (bits-of-set (a / 2 ^ (s + 1) * 2 ^ k + a % 2 ^ s))
-    ∙ ap bitsOf
-    (set-bits-halves k (a / 2 ^ (s + 1)) (a % 2 ^ s) l
+    set-bits-halves k (a / 2 ^ (s + 1)) (a % 2 ^ s) l
     ∙ ap₂ (λ (u v : List ℕ). u ++ v) (digits-below a p s h e)
     (sym (lowered-raised k (shift F 1) (setBits (a / 2 ^ (s + 1))))
     ∙ ap (lowered (shift F 1)) (ap (λ (n : ℕ). raised n (setBits (a / 2 ^ (s + 1)))) f ∙ digits-above a p s h e))
-    ∙ sym (shifted-without F p (setBits a) (set-bits-monotone a) h))
+    ∙ sym (shifted-without F p (setBits a) (set-bits-monotone a) h)
+
+pub without-bits : (F : Family) (a p s k : ℕ) → p < length (setBits a) → s ≡ getD (setBits a) p 64 → k + shift F 1 ≡ s + 1
+    → a / 2 ^ (s + 1) * 2 ^ k + a % 2 ^ s ≡ bitsOf (shifted F (without p (unshifted F (setBits a))))
+without-bits F a p s k h e f = sym (bits-of-set (a / 2 ^ (s + 1) * 2 ^ k + a % 2 ^ s)) ∙ ap bitsOf (set-without F a p s k h e f)
+
+pub without-monotone : (F : Family) (a p : ℕ) → p < length (setBits a) → Monotone F (without p (unshifted F (setBits a)))
+without-monotone F a p h =
+    let s : ℕ = getD (setBits a) p 64 in
+    let k : ℕ = s + 1 - shift F 1 in
+    shifted-monotone F (without p (unshifted F (setBits a))) .1
+    (subst (Monotone Forbidden) (set-without F a p s k h refl (omega (arith, shift-le F 1))) (set-bits-monotone (a / 2 ^ (s + 1) * 2 ^ k + a % 2 ^ s)))
