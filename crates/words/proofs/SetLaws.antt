@@ -3,10 +3,12 @@
 --   set-bits-split    the set of a is that of a % 2 ^ n, and above it that of a / 2 ^ n, raised by n
 --   set-bits-times    a * 2 ^ n has the symbols of a, each raised by n
 --   mod-below    the symbols of a % 2 ^ n are below n
+--   smaller-below-from    of symbols below n, followed by others from n up, those below n are smaller than n
 --   how-many-below    a % 2 ^ n has as many symbols as a has below n
 --   set-bits-mod    they are those: the first so many
 --   set-bits-div    a / 2 ^ n has the others, each lowered by n
 --   position-is-how-many-below    the symbol at position p has p symbols below it
+--   position-is-how-many-up-to    and p + 1 that are not above it
 --   set-bits-ones    2 ^ n - 1 has the numbers below n
 --   lowest-symbol, without-lowest    the trailing zeros are the first symbol, and a & (a - 1) has the others
 use mathlib.Core.Path.{_≡_, refl, sym, ap, ap₂, subst, _∙_}
@@ -47,7 +49,7 @@ pub set-bits-times : (n a : ℕ) → setBits (a * 2 ^ n) ≡ map (λ x. x + n) (
 set-bits-times n a =
     ap setBits (sym (add-zero (a * 2 ^ n))) ∙ set-bits-halves n a 0 (pow-pos n) ∙ ap (λ (w : List ℕ). w ++ map (λ x. x + n) (setBits a)) set-bits-zero
 
-smaller-below-from : (n : ℕ) (u v : List ℕ) → Below n u → From n v → smallerIn n (u ++ v) ≡ length u
+pub smaller-below-from : (n : ℕ) (u v : List ℕ) → Below n u → From n v → smallerIn n (u ++ v) ≡ length u
 unfolding smallerIn
 smaller-below-from n [] [] b f = refl
 smaller-below-from n [] (y ∷ ys) b f = simp (le-ltb y n (f .0)) (omega (arith, smaller-below-from n [] ys b (f .1)))
@@ -81,6 +83,14 @@ position-is-how-many-below (x ∷ xs) zero d m h =
 position-is-how-many-below (x ∷ xs) (suc p) d m h =
     let l : x < getD xs p d = from-at (suc x) xs p d (rest x xs m) (omega arith) in
     simp (lt-ltb x (getD xs p d) l) (omega (arith, position-is-how-many-below xs p d (tail x xs m) (omega arith)))
+
+pub position-is-how-many-up-to : (w : List ℕ) (p d : ℕ) → Monotone Forbidden w → p < length w → smallerIn (suc (getD w p d)) w ≡ suc p
+unfolding smallerIn
+position-is-how-many-up-to [] p d m h = absurd (not-suc-le-zero h)
+position-is-how-many-up-to (x ∷ xs) zero d m h = smaller-below-from (suc x) (x ∷ []) xs (le-refl (suc x), tt) (rest x xs m)
+position-is-how-many-up-to (x ∷ xs) (suc p) d m h =
+    let l : x < suc (getD xs p d) = omega (arith, from-at (suc x) xs p d (rest x xs m) (omega arith)) in
+    simp (lt-ltb x (suc (getD xs p d)) l) (omega (arith, position-is-how-many-up-to xs p d (tail x xs m) (omega arith)))
 
 -- ---- the numbers below n
 

@@ -1,0 +1,4 @@
+pub mod Without
+pub mod Absent
+pub mod Multiplicities
+pub mod Rules
