@@ -1,1 +1,2 @@
+pub mod Width
 pub mod Comparing
