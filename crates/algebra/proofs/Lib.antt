@@ -1,0 +1,4 @@
+pub mod Width
+pub mod Comparing
+pub mod Joining
+pub mod Gathering
