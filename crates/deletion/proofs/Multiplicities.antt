@@ -21,7 +21,7 @@ use Rattle.words.specs.Factorial.{factorial}
 use Rattle.words.specs.Inversions.{multiplicity}
 use Rattle.words.proofs.Factorial.{factorial-grows}
 use Rattle.words.proofs.Members.{in-below}
-use Rattle.words.proofs.Inversions.{multiplicity-append, multiplicity-none}
+use Rattle.words.proofs.Inversions.{multiplicity-append, absent-is-none}
 use Rattle.bits.specs.Member.{holds}
 use Rattle.bits.proofs.Member.{holds-is-in, holds-not}
 use Rattle.deletion.specs.Multiplicities.{ceilingOf, stabilizerBelow, stabilizerOf}
@@ -93,7 +93,7 @@ stabilizer-of-set (suc n) w m = ap₂ (λ (a b : ℕ). a * b) (go (holds n w) re
   where
     go : (t : Bool) → holds n w ≡ t → factorial (multiplicity n w) ≡ 1
     go true e = ap factorial (multiplicity-one n w m (holds-is-in n w .0 e))
-    go false e = ap factorial (multiplicity-none n w (holds-not n w .0 e))
+    go false e = ap factorial (absent-is-none n w .1 (holds-not n w .0 e))
 
 -- ---- any bound does
 
@@ -102,7 +102,7 @@ unfolding stabilizerBelow factorial
 stabilizer-up n zero w b = ap (λ (m : ℕ). stabilizerBelow m w) (zero-add n)
 stabilizer-up n (suc d) w b =
     ap (λ (m : ℕ). stabilizerBelow m w) (suc-add d n)
-    ∙ ap₂ (λ (a b : ℕ). factorial a * b) (multiplicity-none (d + n) w (λ i. omega (arith, in-below n (d + n) w b i))) (stabilizer-up n d w b)
+    ∙ ap₂ (λ (a b : ℕ). factorial a * b) (absent-is-none (d + n) w .1 (λ i. omega (arith, in-below n (d + n) w b i))) (stabilizer-up n d w b)
     ∙ one-mul (stabilizerBelow n w)
 
 ceiling-least : (n : ℕ) (w : List ℕ) → Below n w → ceilingOf w ≤ n

@@ -19,7 +19,7 @@ use Rattle.words.specs.declared.Family.the-variants.{Forbidden, Allowed}
 use Rattle.words.specs.Word.{Monotone, Below}
 use Rattle.words.specs.Inversions.{smallerIn, multiplicity, crossings, inversions}
 use Rattle.words.proofs.SetLaws.{position-is-how-many-below}
-use Rattle.words.proofs.Inversions.{smaller-append, increasing-has-no-inversions, merge-sign-is-left-larger, multiplicity-append, multiplicity-none}
+use Rattle.words.proofs.Inversions.{smaller-append, increasing-has-no-inversions, merge-sign-is-left-larger, multiplicity-append, absent-is-none}
 use Rattle.words.proofs.Members.{in-below}
 use Rattle.answers.specs.declared.Sign.the-variants.{Plus}
 use Rattle.answers.specs.declared.Index.{Index}
@@ -89,8 +89,8 @@ complement-once x n t e s =
           ∙ omega (
             arith,
             multiplicity-append s (wordOf x) (absent n (wordOf x)),
-            multiplicity-none s (wordOf x) (λ i. omega (arith, in-below n s (wordOf x) (o .below) i)),
-            multiplicity-none s (absent n (wordOf x)) (λ i. omega (arith, in-absent n (wordOf x) s .0 i .0)),
+            absent-is-none s (wordOf x) .1 (λ i. omega (arith, in-below n s (wordOf x) (o .below) i)),
+            absent-is-none s (absent n (wordOf x)) .1 (λ i. omega (arith, in-absent n (wordOf x) s .0 i .0)),
           ),
     )
 

@@ -18,7 +18,7 @@ use Rattle.words.specs.Word.{Monotone, Below}
 use Rattle.words.specs.Inversions.{multiplicity}
 use Rattle.words.proofs.Positions.{below-at, monotone-at}
 use Rattle.words.proofs.Members.{in-below}
-use Rattle.words.proofs.Inversions.{multiplicity-none}
+use Rattle.words.proofs.Inversions.{absent-is-none}
 use Rattle.deletion.specs.Multiplicities.{ceilingOf, stabilizerBelow, stabilizerOf}
 use Rattle.deletion.proofs.Multiplicities.{below-more, below-with, below-ceiling, multiplicity-of, stabilizer-none, stabilizer-more, stabilizer-grows}
 
@@ -50,7 +50,7 @@ module _ {w : List ℕ} {i previous run product : ℕ} (p : Running w i previous
       record {
         within = h;
         symbol = s;
-        times = omega (arith, multiplicity-none x (take i w) (λ j. omega (arith, in-below (suc previous) x (take i w) (p .low) j)));
+        times = omega (arith, absent-is-none x (take i w) .1 (λ j. omega (arith, in-below (suc previous) x (take i w) (p .low) j)));
         short = omega arith;
       }
 
