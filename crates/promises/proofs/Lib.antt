@@ -2,3 +2,4 @@ pub mod From
 pub mod Walks
 pub mod Terms
 pub mod Alphabets
+pub mod Signed
