@@ -1,0 +1,3 @@
+pub mod Inserting
+pub mod Selecting
+pub mod Promises
