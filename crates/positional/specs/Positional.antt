@@ -1,0 +1,50 @@
+-- Positional numbers with a radix for each position (Knuth 4.1, mixed radix; 01, "Shapes, digit words, exponents"). Position 0, the first of the list, is least
+-- significant. Assumes nothing.
+--   product rs    the product of the radices, 1 for none
+--   stride rs i    what a digit at position i is worth: the product of the radices before it
+--   strides rs    the stride of each position
+--   cornerOf rs axes    the sum of the strides of the chosen positions
+--   Digits rs ds    as many digits as radices, each below its radix
+--   numberOf rs ds    the number that has the digits ds: d0 + r0 * (d1 + r1 * ..)
+--   digitsOf rs x    the digits of x: x % r0, and then those of x / r0
+--   without i w    the list w with position i taken out
+use mathlib.Core.List.{List, [], _∷_, _++_}
+use Prim.Native.Nat.{ℕ, zero, suc, _+_, _*_, _/_, _%_, _<_}
+use lib.ListN.{length, take, drop}
+
+unfoldable pub product : List ℕ → ℕ
+product [] = 1
+product (r ∷ rs) = r * product rs
+
+abbrev pub stride : List ℕ → ℕ → ℕ
+stride rs i = product (take i rs)
+
+-- the values of f at 0 .. n - 1
+abbrev pub valuesOf : (ℕ → ℕ) → ℕ → List ℕ
+valuesOf f zero = []
+valuesOf f (suc n) = f zero ∷ valuesOf (λ i. f (suc i)) n
+
+abbrev pub strides : List ℕ → List ℕ
+strides rs = valuesOf (stride rs) (length rs)
+
+unfoldable pub cornerOf : List ℕ → List ℕ → ℕ
+cornerOf rs [] = 0
+cornerOf rs (a ∷ axes) = stride rs a + cornerOf rs axes
+
+abbrev pub Digits : List ℕ → List ℕ → Type 0
+Digits [] [] = Unit {0}
+Digits [] (d ∷ ds) = ⊥
+Digits (r ∷ rs) [] = ⊥
+Digits (r ∷ rs) (d ∷ ds) = (d < r) × Digits rs ds
+
+unfoldable pub numberOf : List ℕ → List ℕ → ℕ
+numberOf [] ds = 0
+numberOf (r ∷ rs) [] = 0
+numberOf (r ∷ rs) (d ∷ ds) = d + r * numberOf rs ds
+
+unfoldable pub digitsOf : List ℕ → ℕ → List ℕ
+digitsOf [] x = []
+digitsOf (r ∷ rs) x = (x % r) ∷ digitsOf rs (x / r)
+
+abbrev pub without : ℕ → List ℕ → List ℕ
+without i w = take i w ++ drop (suc i) w

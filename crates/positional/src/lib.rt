@@ -1,0 +1,1 @@
+// Positional numbers with a radix for each position, with no machine width in them: `specs/` has the definitions and `proofs/` their laws.
