@@ -5,6 +5,8 @@
 --   last-shifted-none    the empty word's
 --   room-test    the symbol is held against what its position leaves, in place of the sum
 --   shifted-fit    a word whose last shifted symbol is below n has every shifted symbol below n
+--   all-below-is-below    the test that every symbol is below n says Below
+--   all-below-turn, all-below-end    one symbol of it, and the end of the word
 --   bits-turn, bits-end    one symbol of the bits, and the end of the word
 --   symbol-fits    each shifted symbol of a set of n digits is below n
 --   one-shl    a single digit, as a program shifts it
@@ -27,7 +29,7 @@ use Rattle.words.specs.Pick.{pick}
 use Rattle.words.specs.Word.{Step, Monotone, Below, shift, shiftedFrom}
 use Rattle.words.specs.Bits.{bitsOf}
 use Rattle.words.proofs.Word.{step-up}
-use Rattle.packing.specs.Checks.{steps, rises, lastShiftedFrom, lastShifted}
+use Rattle.packing.specs.Checks.{steps, rises, lastShiftedFrom, lastShifted, allBelow}
 
 -- ---- the rule of a word
 
@@ -102,6 +104,30 @@ shifted-fit F i n (x ∷ y ∷ ys) m h = go (shifted-fit F (suc i) n (y ∷ ys) 
   where
     go : Below n (shiftedFrom F (suc i) (y ∷ ys)) → Below n (shiftedFrom F i (x ∷ y ∷ ys))
     go b = (lt-trans (step-up F i x y (m .0)) (b .0), b)
+
+-- ---- every symbol below n
+
+pub all-below-is-below : (n : ℕ) (w : List ℕ) → (allBelow n w ≡ true) ↔ Below n w
+all-below-is-below n w = (to w, from w)
+  where
+    to : (w : List ℕ) → allBelow n w ≡ true → Below n w
+    to [] e = tt
+    to (x ∷ xs) e = go (ltb x n) refl e (to xs)
+      where
+        go : (t : Bool) → ltb x n ≡ t → pick t (allBelow n xs) false ≡ true → (allBelow n xs ≡ true → Below n xs) → Below n (x ∷ xs)
+        go true s e more = (ltb-true x n s, more e)
+        go false s e more = absurd (let z : _≡_ {A = ℕ} 0 1 = cc in omega arith)
+
+    from : (w : List ℕ) → Below n w → allBelow n w ≡ true
+    from [] b = refl
+    from (x ∷ xs) b = ap (λ t. pick t (allBelow n xs) false) (lt-ltb x n (b .0)) ∙ from xs (b .1)
+
+pub all-below-turn : (n : ℕ) (w : List ℕ) (i : ℕ) → i < length w → allBelow n (drop i w) ≡ pick (ltb (getD w i 0) n) (allBelow n (drop (i + 1) w)) false
+all-below-turn n w i h =
+    ap (allBelow n) (drop-cons w i 0 h) ∙ ap (λ (j : ℕ). pick (ltb (getD w i 0) n) (allBelow n (drop j w)) false) (sym (add-one i))
+
+pub all-below-end : (n : ℕ) (w : List ℕ) (i : ℕ) → length w ≤ i → allBelow n (drop i w) ≡ true
+all-below-end n w i h = ap (allBelow n) (drop-of-length-le w h)
 
 -- ---- the bits
 

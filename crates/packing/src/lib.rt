@@ -6,7 +6,7 @@ ghost use lib.Dec.{ltb};
 ghost use lib.ListN.{length, drop};
 ghost use Rattle.words.specs.Word.{shifted, unshifted};
 ghost use Rattle.words.specs.Bits.{bitsOf, setBits};
-ghost use Rattle.packing.specs.Checks.{steps, rises as risesOf, lastShifted};
+ghost use Rattle.packing.specs.Checks.{steps, rises as risesOf, lastShifted, allBelow};
 use words::Family;
 
 // Whether y may stand right above x.
@@ -44,6 +44,20 @@ pub fn past_top(f: Family, w: &[u64]) -> bool
     }
     let room = 63 - words::shift(f, (n - 1) as u64);
     room < w[n - 1]
+}
+
+// Whether every symbol of the word, in any order, is below n.
+pub fn all_below(n: u64, w: &[u64]) -> bool
+    ensures { λ r. ⌜ r ≡ allBelow n (now (w .entry)) ⌝ }
+{
+    let mut i = 0;
+    while i < w.len() {
+        if n <= w[i] {
+            return false;
+        }
+        i += 1;
+    }
+    true
 }
 
 // The set of the shifted symbols, as bits.

@@ -1,0 +1,6 @@
+pub mod Exponents
+pub mod Checks
+pub mod Spelling
+pub mod Tallying
+pub mod Passing
+pub mod Promises
