@@ -1,19 +1,28 @@
 -- Answers that give a permutation. Assumes nothing.
+--   word-of-record, record-holds    the record of a list holds that list
 --   arranges-refusal, arranges-given    what such an answer says, from how it was made
---   arranges-refused    one that passes the refusal of the check on
 use mathlib.Core.Path.{_≡_, refl, ap, subst⁻¹, _∙_}
 use mathlib.Core.List.{List}
-use Prim.Native.Nat.{ℕ}
+use Prim.Native.Nat.{ℕ, _≤_}
+use native.Mathlib.Omega.{arith}
 use lib.ListN.{length, drop}
 use lib.Seq.{take-append-seam}
+use Rattle.arrangements.specs.Permutation.{Permutation as IsPermutation}
 use Rattle.answers.specs.declared.Refusal.{Refusal}
 use Rattle.answers.specs.Says.{Says, refuses, gives, numberOf}
 use Rattle.permutation.specs.declared.Permutation.{Permutation}
 use Rattle.permutation.specs.declared.Arranged.{Arranged}
-use Rattle.permutation.specs.Record.{zeros, wordOf, recordOf, refusal, giving, Arranges}
+use Rattle.permutation.specs.Record.{capacity, zeros, wordOf, recordOf, Holds, refusal, giving, Arranges}
 
 pub word-of-record : (w : List ℕ) → wordOf (recordOf w) ≡ w
 word-of-record w = take-append-seam w (drop (length w) zeros)
+
+pub record-holds : (n : ℕ) (w : List ℕ) → IsPermutation n w → n ≤ capacity → Holds (recordOf w)
+record-holds n w p l =
+    record {
+      short = omega (arith, p .long);
+      permutation = subst⁻¹ (IsPermutation (length w)) (word-of-record w) (subst⁻¹ (λ (m : ℕ). IsPermutation m w) (p .long) p);
+    }
 
 pub arranges-refusal : (s : Says (List ℕ)) (r : Arranged) (e : Refusal) → r ≡ refusal e → s ≡ refuses (numberOf e) → Arranges s r
 arranges-refusal s r e q t = subst⁻¹ (λ (x : Arranged). Arranges s x) q (subst⁻¹ (λ (x : Says (List ℕ)). Arranges x (refusal e)) t (record { says = refl; value = refl }))

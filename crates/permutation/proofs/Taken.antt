@@ -19,26 +19,26 @@ use Rattle.answers.proofs.Says.{passed}
 use Rattle.permutation.specs.declared.Permutation.{Permutation}
 use Rattle.permutation.specs.declared.Verdict.{Verdict}
 use Rattle.permutation.specs.declared.Verdict.the-variants as verdict
-use Rattle.permutation.specs.Record.{capacity, wordOf, Holds, verdictSays}
+use Rattle.permutation.specs.Record.{capacity, wordOf, Whole, Holds, verdictSays}
 use Rattle.permutation.specs.Rules.{tooLong, notAPermutation, taken}
 
 pub word-at : (p : Permutation) (i : ℕ) → i < p .len → getD (wordOf p) i 0 ≡ getD (p .entries) i 0
 word-at p i h = getD-take (p .len) (p .entries) i 0 h
 
-pub word-long : (p : Permutation) → length (p .entries) ≡ capacity → p .len ≤ capacity → length (wordOf p) ≡ p .len
+pub word-long : (p : Permutation) → Whole p → p .len ≤ capacity → length (wordOf p) ≡ p .len
 word-long p e h = length-take-le (p .len) (p .entries) (omega arith)
 
 pub holds-below : (p : Permutation) → Holds p → (i : ℕ) → i < p .len → getD (p .entries) i 0 < p .len
 holds-below p h i l = omega (arith, word-at p i l, by-places (p .len) (wordOf p) (h .permutation) .below i l)
 
-pub tested-holds : (p : Permutation) → length (p .entries) ≡ capacity → p .len ≤ capacity → isPermutation (wordOf p) ≡ true → Holds p
+pub tested-holds : (p : Permutation) → Whole p → p .len ≤ capacity → isPermutation (wordOf p) ≡ true → Holds p
 tested-holds p e h t = record { short = h; permutation = test-tells (p .len) (wordOf p) (word-long p e h) t }
 
 pub taken-holds : (p : Permutation) → Holds p → taken p ≡ gives (wordOf p)
 unfolding taken
 taken-holds p h = simp (le-ltb capacity (p .len) (h .short), test-passes (p .len) (wordOf p) (h .permutation))
 
-pub holds-taken : (p : Permutation) (w : List ℕ) → length (p .entries) ≡ capacity → taken p ≡ gives w → Holds p
+pub holds-taken : (p : Permutation) (w : List ℕ) → Whole p → taken p ≡ gives w → Holds p
 unfolding taken
 holds-taken p w l e =
     let first = passed (tooLong (p .len)) 1 (refusedIf (notAPermutation p) 10 (gives (wordOf p))) w e in
@@ -51,5 +51,5 @@ module _ (p : Permutation) (v : Verdict) (says : verdictSays v (wordOf p) ≡ ta
   pub verdict-refuses : (e : Refusal) → v ≡ verdict.Refused e → taken p ≡ refuses (numberOf e)
   verdict-refuses e q = sym says ∙ ap (λ (x : Verdict). verdictSays x (wordOf p)) q
 
-  pub verdict-gives : v ≡ verdict.Given → length (p .entries) ≡ capacity → Holds p
+  pub verdict-gives : v ≡ verdict.Given → Whole p → Holds p
   verdict-gives q l = holds-taken p (wordOf p) l (sym says ∙ ap (λ (x : Verdict). verdictSays x (wordOf p)) q)

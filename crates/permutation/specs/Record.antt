@@ -3,6 +3,7 @@
 --   wordOf p    the permutation as a list: the first len entries; what stands past them is ignored
 --   zeros    a record's entries, all 0
 --   recordOf w    the record of a list: zeros past its length
+--   Whole p    the record has all its entries, as each of a program has
 --   Holds p    the record holds a permutation, not longer than the capacity
 --   Agree p q    both do, and they have one length
 --   verdictSays v a    what a verdict means that stands beside the value a
@@ -36,6 +37,9 @@ zeros = replicate capacity 0
 
 abbrev pub recordOf : List ℕ → Permutation
 recordOf w = record { entries = w ++ drop (length w) zeros; len = length w }
+
+abbrev pub Whole : Permutation → Type 0
+Whole p = length (p .entries) ≡ capacity
 
 pub record Holds (p : Permutation) : Type 0 where
   pub short : p .len ≤ capacity

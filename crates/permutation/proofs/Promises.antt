@@ -1,0 +1,254 @@
+-- What image, inverse, composition and sign promise, over what the calls say (01, "Permutations"). Assumes nothing.
+--   taken-exactly, too-long-exactly, not-a-permutation-exactly    which records are taken, and why the others are refused
+--   past-the-length-is-ignored    what stands past the length does not matter
+--   given-is-taken    the record of a permutation is taken again
+--   image-exactly, outside-exactly    the image of a place, and 7
+--   composition-sends    p after q sends i to p(q(i))
+--   compose-exactly    which pairs of records are composed, and to what
+--   composition-is-a-permutation, inverse-of-a-permutation    what is given is a permutation of that length
+--   compose-with-inverse    the inverse composed with p, either way round, is the identity
+--   composition-is-associative    either way of composing three says the same
+--   sign-of-composition, sign-of-inverse    the sign of a composition is the product of the signs; that of the inverse is the sign
+use mathlib.Core.Path.{_≡_, refl, sym, ap, ap₂, subst⁻¹, _∙_}
+use mathlib.Core.Logic.{_↔_}
+use mathlib.Core.Bool.{Bool, true, false, not, true≢false}
+use mathlib.Core.List.{List}
+use Prim.Native.Nat.{ℕ, _+_, _≤_, _<_}
+use native.Mathlib.Decide.{decLe}
+use native.Mathlib.Omega.{arith}
+use borrow.Author.Tests.{ltb-true, ltb-false, le-ltb, leb-false, le-leb, lt-leb, eqb-true, eq-eqb, not-false}
+use lib.Dec.{leb, eqb}
+use lib.ListN.{length, getD, take}
+use Rattle.words.specs.Word.{Below}
+use Rattle.words.specs.Inversions.{inversions, parity}
+use Rattle.arrangements.specs.Permutation.{Permutation as IsPermutation, isPermutation, identity, compose, inverse}
+use Rattle.arrangements.proofs.Places.{test-passes}
+use Rattle.arrangements.proofs.Group.{compose-at, compose-associative, compose-is-a-permutation, inverse-is-a-permutation, compose-inverse, inverse-compose}
+use Rattle.arrangements.proofs.Sign.{parity-of-compose, parity-of-inverse}
+use Rattle.answers.specs.declared.Sign.{Sign}
+use Rattle.answers.specs.Says.{Says, refuses, gives, refusedIf}
+use Rattle.answers.specs.Signs.{signOf, times}
+use Rattle.answers.proofs.Says.{gives-same, gives-no-refusal, passed, then-gave}
+use Rattle.answers.proofs.Signs.{sign-of-parity, times-of-sum}
+use Rattle.permutation.specs.declared.Permutation.{Permutation}
+use Rattle.permutation.specs.Record.{capacity, wordOf, recordOf, Whole, Holds, Agree}
+use Rattle.permutation.specs.Rules.{tooLong, notAPermutation, taken, imageSays, inverseSays, composeSays, signSays}
+use Rattle.permutation.proofs.Taken.{taken-holds, holds-taken, tested-holds}
+use Rattle.permutation.proofs.Arranging.{word-of-record, record-holds}
+
+-- ---- the records that are taken
+
+-- a record is too long, or holds no permutation, or holds one
+data Judged (p : Permutation) : Type 0 where
+  long : capacity < p .len → taken p ≡ refuses 1 → Judged p
+  broken : p .len ≤ capacity → (IsPermutation (p .len) (wordOf p) → ⊥) → taken p ≡ refuses 10 → Judged p
+  held : Holds p → taken p ≡ gives (wordOf p) → Judged p
+
+judged : (p : Permutation) → Whole p → Judged p
+unfolding taken
+judged p l = go (tooLong (p .len)) refl (isPermutation (wordOf p)) refl
+  where
+    go : (s : Bool) → tooLong (p .len) ≡ s → (t : Bool) → isPermutation (wordOf p) ≡ t → Judged p
+    go true a t b = long (ltb-true capacity (p .len) a) (simp a)
+    go false a true b = held (tested-holds p l (ltb-false capacity (p .len) a) b) (simp (a, b))
+    go false a false b =
+        broken (ltb-false capacity (p .len) a) (λ h. true≢false (sym (test-passes (p .len) (wordOf p) h) ∙ b)) (simp (a, b))
+
+refusal-same : {A : Type 0} (s : Says A) (a b : ℕ) → s ≡ refuses a → s ≡ refuses b → a ≡ b
+refusal-same s a b p q = cc
+
+pub taken-exactly : (p : Permutation) → Whole p → (w : List ℕ) → (taken p ≡ gives w) ↔ (Holds p × (w ≡ wordOf p))
+taken-exactly p l w =
+    (λ e. (holds-taken p w l e, gives-same w (wordOf p) (sym e ∙ taken-holds p (holds-taken p w l e))), λ t. taken-holds p (t .0) ∙ ap gives (sym (t .1)))
+
+pub too-long-exactly : (p : Permutation) → Whole p → (taken p ≡ refuses 1) ↔ (capacity < p .len)
+too-long-exactly p l = (λ e. to (judged p l) e, λ h. from (judged p l) h)
+  where
+    to : Judged p → taken p ≡ refuses 1 → capacity < p .len
+    to (long h t) e = h
+    to (broken h n t) e = absurd (omega (arith, refusal-same (taken p) 10 1 t e))
+    to (held h t) e = absurd (gives-no-refusal (wordOf p) 1 (sym t ∙ e))
+
+    from : Judged p → capacity < p .len → taken p ≡ refuses 1
+    from (long h t) g = t
+    from (broken h n t) g = absurd (omega arith)
+    from (held h t) g = absurd (omega (arith, h .short))
+
+pub not-a-permutation-exactly : (p : Permutation) → Whole p → (taken p ≡ refuses 10) ↔ ((p .len ≤ capacity) × (IsPermutation (p .len) (wordOf p) → ⊥))
+not-a-permutation-exactly p l = (λ e. to (judged p l) e, λ h. from (judged p l) h)
+  where
+    to : Judged p → taken p ≡ refuses 10 → (p .len ≤ capacity) × (IsPermutation (p .len) (wordOf p) → ⊥)
+    to (long h t) e = absurd (omega (arith, refusal-same (taken p) 1 10 t e))
+    to (broken h n t) e = (h, n)
+    to (held h t) e = absurd (gives-no-refusal (wordOf p) 10 (sym t ∙ e))
+
+    from : Judged p → (p .len ≤ capacity) × (IsPermutation (p .len) (wordOf p) → ⊥) → taken p ≡ refuses 10
+    from (long h t) g = absurd (omega (arith, g .0))
+    from (broken h n t) g = t
+    from (held h t) g = absurd (g .1 (h .permutation))
+
+pub past-the-length-is-ignored : (n : ℕ) (e f : List ℕ) → take n e ≡ take n f → taken (record { entries = e; len = n }) ≡ taken (record { entries = f; len = n })
+unfolding taken
+past-the-length-is-ignored n e f q = ap (λ (w : List ℕ). refusedIf (tooLong n) 1 (refusedIf (not (isPermutation w)) 10 (gives w))) q
+
+pub given-is-taken : (n : ℕ) (w : List ℕ) → IsPermutation n w → n ≤ capacity → taken (recordOf w) ≡ gives w
+given-is-taken n w p l = taken-holds (recordOf w) (record-holds n w p l) ∙ ap gives (word-of-record w)
+
+-- ---- the image of a place
+
+module _ (p : Permutation) (l : Whole p) (i : ℕ) where
+  image-of : Holds p → imageSays p i ≡ refusedIf (leb (p .len) i) 7 (gives (getD (wordOf p) i 0))
+  image-of h = simp (taken-holds p h)
+
+  pub image-exactly : (x : ℕ) → (imageSays p i ≡ gives x) ↔ (Holds p × (i < p .len) × (x ≡ getD (wordOf p) i 0))
+  image-exactly x = (to, λ t. image-of (t .0) ∙ simp (lt-leb (p .len) i (t .1)) (ap gives (sym (t .2))))
+    where
+      to : imageSays p i ≡ gives x → Holds p × (i < p .len) × (x ≡ getD (wordOf p) i 0)
+      to e =
+          let t = then-gave (taken p) (λ w. refusedIf (leb (p .len) i) 7 (gives (getD w i 0))) x e in
+          let h = holds-taken p (t .0) l (t .1) in
+          let s = passed (leb (p .len) i) 7 (gives (getD (wordOf p) i 0)) x (sym (image-of h) ∙ e) in
+          (h, leb-false (p .len) i (s .0), gives-same x (getD (wordOf p) i 0) (sym (s .1)))
+
+  pub outside-exactly : (imageSays p i ≡ refuses 7) ↔ (Holds p × (p .len ≤ i))
+  outside-exactly = (to (judged p l), λ t. image-of (t .0) ∙ simp (le-leb (p .len) i (t .1)))
+    where
+      to : Judged p → imageSays p i ≡ refuses 7 → Holds p × (p .len ≤ i)
+      to (long h t) e = absurd (omega (arith, refusal-same (imageSays p i) 1 7 (simp t) e))
+      to (broken h n t) e = absurd (omega (arith, refusal-same (imageSays p i) 10 7 (simp t) e))
+      to (held h t) e = (h, go (decLe (p .len) i))
+        where
+          go : Dec (p .len ≤ i) → p .len ≤ i
+          go (yes q) = q
+          go (no q) = absurd (gives-no-refusal (getD (wordOf p) i 0) 7 (sym (image-exactly (getD (wordOf p) i 0) .1 (h, omega arith, refl)) ∙ e))
+
+-- ---- composition
+
+compose-agree : (p q : Permutation) → Agree p q → composeSays p q ≡ gives (compose (wordOf p) (wordOf q))
+compose-agree p q a =
+    simp (
+      le-ltb capacity (p .len) (a .left .short),
+      le-ltb capacity (q .len) (a .right .short),
+      eq-eqb (p .len) (q .len) (a .lengths),
+      test-passes (p .len) (wordOf p) (a .left .permutation),
+      test-passes (q .len) (wordOf q) (a .right .permutation),
+    )
+
+compose-given : (p q : Permutation) → Whole p → Whole q → (w : List ℕ) → composeSays p q ≡ gives w → Agree p q
+compose-given p q l m w e =
+    let a = passed (tooLong (p .len)) 1 _ w e in
+    let b = passed (tooLong (q .len)) 1 _ w (a .1) in
+    let c = passed (not (eqb (p .len) (q .len))) 8 _ w (b .1) in
+    let d = passed (notAPermutation p) 10 _ w (c .1) in
+    let f = passed (notAPermutation q) 10 (gives (compose (wordOf p) (wordOf q))) w (d .1) in
+    record {
+      left = tested-holds p l (ltb-false capacity (p .len) (a .0)) (not-false (isPermutation (wordOf p)) (d .0));
+      right = tested-holds q m (ltb-false capacity (q .len) (b .0)) (not-false (isPermutation (wordOf q)) (f .0));
+      lengths = eqb-true (p .len) (q .len) (not-false (eqb (p .len) (q .len)) (c .0));
+    }
+
+pub compose-exactly : (p q : Permutation) → Whole p → Whole q → (w : List ℕ) → (composeSays p q ≡ gives w) ↔ (Agree p q × (w ≡ compose (wordOf p) (wordOf q)))
+compose-exactly p q l m w = (
+  λ e. (compose-given p q l m w e, gives-same w (compose (wordOf p) (wordOf q)) (sym e ∙ compose-agree p q (compose-given p q l m w e))),
+  λ t. compose-agree p q (t .0) ∙ ap gives (sym (t .1)),
+)
+
+module _ (p q : Permutation) (l : Whole p) (m : Whole q) (w : List ℕ) (e : composeSays p q ≡ gives w) where
+  composed : Agree p q × (w ≡ compose (wordOf p) (wordOf q))
+  composed = compose-exactly p q l m w .0 e
+
+  pub composition-sends : (i : ℕ) → i < p .len → getD w i 0 ≡ getD (wordOf p) (getD (wordOf q) i 0) 0
+  composition-sends i h =
+      ap (λ (u : List ℕ). getD u i 0) (composed .1) ∙ compose-at (wordOf p) (wordOf q) i (omega (arith, composed .0 .lengths, composed .0 .right .permutation .long))
+
+  pub composition-is-a-permutation : IsPermutation (p .len) w
+  composition-is-a-permutation =
+      subst⁻¹ (IsPermutation (p .len)) (composed .1)
+      (compose-is-a-permutation (p .len) (wordOf p) (wordOf q) (composed .0 .left .permutation)
+      (subst⁻¹ (λ (n : ℕ). IsPermutation n (wordOf q)) (composed .0 .lengths) (composed .0 .right .permutation)))
+
+-- ---- the inverse
+
+inverse-given : (p : Permutation) → Whole p → (v : List ℕ) → inverseSays p ≡ gives v → Holds p × (v ≡ inverse (wordOf p))
+inverse-given p l v e =
+    let t = then-gave (taken p) (λ w. gives (inverse w)) v e in
+    let h = holds-taken p (t .0) l (t .1) in
+    (h, gives-same v (inverse (wordOf p)) (sym e ∙ simp (taken-holds p h)))
+
+module _ (p : Permutation) (l : Whole p) (v : List ℕ) (e : inverseSays p ≡ gives v) where
+  inverted : Holds p × (v ≡ inverse (wordOf p))
+  inverted = inverse-given p l v e
+
+  pub inverse-of-a-permutation : IsPermutation (p .len) v
+  inverse-of-a-permutation = subst⁻¹ (IsPermutation (p .len)) (inverted .1) (inverse-is-a-permutation (p .len) (wordOf p) (inverted .0 .permutation))
+
+  pub compose-with-inverse : (composeSays p (recordOf v) ≡ gives (identity (p .len))) × (composeSays (recordOf v) p ≡ gives (identity (p .len)))
+  compose-with-inverse = (
+    compose-agree p (recordOf v) (record { left = inverted .0; right = record-holds (p .len) v inverse-of-a-permutation (inverted .0 .short); lengths = sym long })
+        ∙ ap gives (ap (compose (wordOf p)) back ∙ compose-inverse (p .len) (wordOf p) (inverted .0 .permutation)),
+    compose-agree (recordOf v) p (record { left = record-holds (p .len) v inverse-of-a-permutation (inverted .0 .short); right = inverted .0; lengths = long })
+        ∙ ap gives (ap (λ (u : List ℕ). compose u (wordOf p)) back ∙ inverse-compose (p .len) (wordOf p) (inverted .0 .permutation)),
+  )
+    where
+      long : length v ≡ p .len
+      long = inverse-of-a-permutation .long
+
+      back : wordOf (recordOf v) ≡ inverse (wordOf p)
+      back = word-of-record v ∙ inverted .1
+
+pub composition-is-associative : (p q r : Permutation) → Whole p → Whole q → Whole r → (u v : List ℕ) → composeSays p q ≡ gives u → composeSays q r ≡ gives v
+    → composeSays (recordOf u) r ≡ composeSays p (recordOf v)
+composition-is-associative p q r l m k u v e f =
+    compose-agree (recordOf u) r (record { left = record-holds (p .len) u pu (a .0 .left .short); right = b .0 .right; lengths = pu .long ∙ a .0 .lengths ∙ b .0 .lengths })
+    ∙ ap gives (ap (λ (w : List ℕ). compose w (wordOf r)) (word-of-record u ∙ a .1)
+    ∙ compose-associative (wordOf p) (wordOf q) (wordOf r) (subst⁻¹ (λ (n : ℕ). Below n (wordOf r)) (b .0 .left .permutation .long ∙ b .0 .lengths) (b .0 .right .permutation .below))
+    ∙ ap (compose (wordOf p)) (sym (word-of-record v ∙ b .1)))
+    ∙ sym (compose-agree p (recordOf v) (record { left = a .0 .left; right = record-holds (q .len) v pv (b .0 .left .short); lengths = a .0 .lengths ∙ sym (pv .long) }))
+  where
+    a : Agree p q × (u ≡ compose (wordOf p) (wordOf q))
+    a = compose-exactly p q l m u .0 e
+
+    b : Agree q r × (v ≡ compose (wordOf q) (wordOf r))
+    b = compose-exactly q r m k v .0 f
+
+    pu : IsPermutation (p .len) u
+    pu = composition-is-a-permutation p q l m u e
+
+    pv : IsPermutation (q .len) v
+    pv = composition-is-a-permutation q r m k v f
+
+-- ---- the sign
+
+sign-of : (p : Permutation) → Holds p → signSays p ≡ gives (signOf (inversions (wordOf p)))
+sign-of p h = simp (taken-holds p h)
+
+-- the sign of the record of a list
+sign-of-record : (n : ℕ) (w : List ℕ) → IsPermutation n w → n ≤ capacity → signSays (recordOf w) ≡ gives (signOf (inversions w))
+sign-of-record n w p l = sign-of (recordOf w) (record-holds n w p l) ∙ ap (λ (u : List ℕ). gives (signOf (inversions u))) (word-of-record w)
+
+pub sign-of-composition : (p q : Permutation) → Whole p → Whole q → (w : List ℕ) (a b : Sign) → composeSays p q ≡ gives w → signSays p ≡ gives a → signSays q ≡ gives b
+    → signSays (recordOf w) ≡ gives (times a b)
+sign-of-composition p q l m w a b e f g =
+    sign-of-record (p .len) w (composition-is-a-permutation p q l m w e) (t .0 .left .short)
+    ∙ ap gives (ap (λ (u : List ℕ). signOf (inversions u)) (t .1)
+    ∙ sign-of-parity (inversions (compose (wordOf p) (wordOf q))) (inversions (wordOf p) + inversions (wordOf q)) parities
+    ∙ sym (times-of-sum (inversions (wordOf p)) (inversions (wordOf q)))
+    ∙ ap₂ times (gives-same _ a (sym (sign-of p (t .0 .left)) ∙ f)) (gives-same _ b (sym (sign-of q (t .0 .right)) ∙ g)))
+  where
+    t : Agree p q × (w ≡ compose (wordOf p) (wordOf q))
+    t = compose-exactly p q l m w .0 e
+
+    parities : parity (inversions (compose (wordOf p) (wordOf q))) ≡ parity (inversions (wordOf p) + inversions (wordOf q))
+    parities =
+        parity-of-compose (p .len) (wordOf p) (wordOf q) (t .0 .left .permutation)
+        (subst⁻¹ (λ (n : ℕ). IsPermutation n (wordOf q)) (t .0 .lengths) (t .0 .right .permutation))
+
+pub sign-of-inverse : (p : Permutation) → Whole p → (v : List ℕ) → inverseSays p ≡ gives v → signSays (recordOf v) ≡ signSays p
+sign-of-inverse p l v e =
+    sign-of-record (p .len) v (inverse-of-a-permutation p l v e) (t .0 .short)
+    ∙ ap gives (ap (λ (u : List ℕ). signOf (inversions u)) (t .1)
+    ∙ sign-of-parity (inversions (inverse (wordOf p))) (inversions (wordOf p)) (parity-of-inverse (p .len) (wordOf p) (t .0 .permutation)))
+    ∙ sym (sign-of p (t .0))
+  where
+    t : Holds p × (v ≡ inverse (wordOf p))
+    t = inverse-given p l v e
