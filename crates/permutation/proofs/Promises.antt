@@ -1,5 +1,6 @@
 -- What image, inverse, composition and sign promise, over what the calls say (01, "Permutations"). Assumes nothing.
 --   taken-exactly, too-long-exactly, not-a-permutation-exactly    which records are taken, and why the others are refused
+--   Judged, judged    a record is too long, or holds no permutation, or holds one
 --   past-the-length-is-ignored    what stands past the length does not matter
 --   given-is-taken    the record of a permutation is taken again
 --   image-exactly, outside-exactly    the image of a place, and 7
@@ -26,9 +27,9 @@ use Rattle.arrangements.proofs.Places.{test-passes}
 use Rattle.arrangements.proofs.Group.{compose-at, compose-associative, compose-is-a-permutation, inverse-is-a-permutation, compose-inverse, inverse-compose}
 use Rattle.arrangements.proofs.Sign.{parity-of-compose, parity-of-inverse}
 use Rattle.answers.specs.declared.Sign.{Sign}
-use Rattle.answers.specs.Says.{Says, refuses, gives, refusedIf}
+use Rattle.answers.specs.Says.{refuses, gives, refusedIf}
 use Rattle.answers.specs.Signs.{signOf, times}
-use Rattle.answers.proofs.Says.{gives-same, gives-no-refusal, passed, then-gave}
+use Rattle.answers.proofs.Says.{gives-same, refuses-same, gives-no-refusal, passed, then-gave}
 use Rattle.answers.proofs.Signs.{sign-of-parity, times-of-sum}
 use Rattle.permutation.specs.declared.Permutation.{Permutation}
 use Rattle.permutation.specs.Record.{capacity, wordOf, recordOf, Whole, Holds, Agree}
@@ -38,13 +39,12 @@ use Rattle.permutation.proofs.Arranging.{word-of-record, record-holds}
 
 -- ---- the records that are taken
 
--- a record is too long, or holds no permutation, or holds one
-data Judged (p : Permutation) : Type 0 where
+pub data Judged (p : Permutation) : Type 0 where
   long : capacity < p .len → taken p ≡ refuses 1 → Judged p
   broken : p .len ≤ capacity → (IsPermutation (p .len) (wordOf p) → ⊥) → taken p ≡ refuses 10 → Judged p
   held : Holds p → taken p ≡ gives (wordOf p) → Judged p
 
-judged : (p : Permutation) → Whole p → Judged p
+pub judged : (p : Permutation) → Whole p → Judged p
 unfolding taken
 judged p l = go (tooLong (p .len)) refl (isPermutation (wordOf p)) refl
   where
@@ -53,9 +53,6 @@ judged p l = go (tooLong (p .len)) refl (isPermutation (wordOf p)) refl
     go false a true b = held (tested-holds p l (ltb-false capacity (p .len) a) b) (simp (a, b))
     go false a false b =
         broken (ltb-false capacity (p .len) a) (λ h. true≢false (sym (test-passes (p .len) (wordOf p) h) ∙ b)) (simp (a, b))
-
-refusal-same : {A : Type 0} (s : Says A) (a b : ℕ) → s ≡ refuses a → s ≡ refuses b → a ≡ b
-refusal-same s a b p q = cc
 
 pub taken-exactly : (p : Permutation) → Whole p → (w : List ℕ) → (taken p ≡ gives w) ↔ (Holds p × (w ≡ wordOf p))
 taken-exactly p l w =
@@ -66,7 +63,7 @@ too-long-exactly p l = (λ e. to (judged p l) e, λ h. from (judged p l) h)
   where
     to : Judged p → taken p ≡ refuses 1 → capacity < p .len
     to (long h t) e = h
-    to (broken h n t) e = absurd (omega (arith, refusal-same (taken p) 10 1 t e))
+    to (broken h n t) e = absurd (omega (arith, refuses-same (taken p) 10 1 t e))
     to (held h t) e = absurd (gives-no-refusal (wordOf p) 1 (sym t ∙ e))
 
     from : Judged p → capacity < p .len → taken p ≡ refuses 1
@@ -78,7 +75,7 @@ pub not-a-permutation-exactly : (p : Permutation) → Whole p → (taken p ≡ r
 not-a-permutation-exactly p l = (λ e. to (judged p l) e, λ h. from (judged p l) h)
   where
     to : Judged p → taken p ≡ refuses 10 → (p .len ≤ capacity) × (IsPermutation (p .len) (wordOf p) → ⊥)
-    to (long h t) e = absurd (omega (arith, refusal-same (taken p) 1 10 t e))
+    to (long h t) e = absurd (omega (arith, refuses-same (taken p) 1 10 t e))
     to (broken h n t) e = (h, n)
     to (held h t) e = absurd (gives-no-refusal (wordOf p) 10 (sym t ∙ e))
 
@@ -114,8 +111,8 @@ module _ (p : Permutation) (l : Whole p) (i : ℕ) where
   outside-exactly = (to (judged p l), λ t. image-of (t .0) ∙ simp (le-leb (p .len) i (t .1)))
     where
       to : Judged p → imageSays p i ≡ refuses 7 → Holds p × (p .len ≤ i)
-      to (long h t) e = absurd (omega (arith, refusal-same (imageSays p i) 1 7 (simp t) e))
-      to (broken h n t) e = absurd (omega (arith, refusal-same (imageSays p i) 10 7 (simp t) e))
+      to (long h t) e = absurd (omega (arith, refuses-same (imageSays p i) 1 7 (simp t) e))
+      to (broken h n t) e = absurd (omega (arith, refuses-same (imageSays p i) 10 7 (simp t) e))
       to (held h t) e = (h, go (decLe (p .len) i))
         where
           go : Dec (p .len ≤ i) → p .len ≤ i

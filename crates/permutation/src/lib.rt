@@ -120,15 +120,15 @@ fn inverted(p: Permutation) -> Permutation
     ensures { λ r. ⌜ r ≡ recordOf (inverseOf (wordOf p)) ⌝ }
 {
     let n = p.len;
-    let mut out = [0u64; CAPACITY];
+    let mut places = [0u64; CAPACITY];
     let mut i = 0u64;
     while i < n {
         let x = p.entries[i as usize];
-        out[x as usize] = i;
+        places[x as usize] = i;
         i += 1;
     }
     Permutation {
-        entries: out,
+        entries: places,
         len: n,
     }
 }

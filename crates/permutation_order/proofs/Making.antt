@@ -8,8 +8,6 @@ use mathlib.Core.List.{List, []}
 use Prim.Native.Nat.{ℕ, _+_, _/_, _%_, _≤_, _<_}
 use native.Mathlib.Nat.{mod-lt, mod-eq-of-lt, div-one}
 use native.Mathlib.Numerals.{add-one}
-use native.Mathlib.Omega.{arith}
-use lib.ListN.{length}
 use Rattle.words.specs.Factorial.{factorial}
 use Rattle.words.proofs.Factorial.{factorial-positive}
 use Rattle.arrangements.specs.Permutation.{Permutation}
@@ -17,7 +15,7 @@ use Rattle.arrangements.specs.Rank.{lastly, unrankOf}
 use Rattle.arrangements.proofs.Unrank.{unrank-is-a-permutation, unrank-next, quotient-next}
 use Rattle.permutation.specs.declared.Permutation.{Permutation as Record}
 use Rattle.permutation.specs.Record.{capacity, wordOf, recordOf, Holds}
-use Rattle.permutation.proofs.Arranging.{word-of-record}
+use Rattle.permutation.proofs.Arranging.{word-of-record, record-holds}
 
 unfoldable pub made : ℕ → ℕ → List ℕ
 made j r = unrankOf j (r % factorial j)
@@ -36,11 +34,7 @@ made-permutation j r = unrank-is-a-permutation j (r % factorial j) (mod-lt r (fa
 
 pub made-holds : (j r : ℕ) (p : Record) → p ≡ recordOf (made j r) → j ≤ capacity → Holds p × (p .len ≡ j)
 made-holds j r p e l =
-    subst⁻¹ (λ (q : Record). Holds q × (q .len ≡ j)) e
-    (record { short = omega (arith, made-permutation j r .long); permutation = permutation }, made-permutation j r .long)
-  where
-    permutation : Permutation (length (made j r)) (wordOf (recordOf (made j r)))
-    permutation = subst⁻¹ (λ (w : List ℕ). Permutation (length (made j r)) w) (word-of-record (made j r)) (subst⁻¹ (λ (n : ℕ). Permutation n (made j r)) (made-permutation j r .long) (made-permutation j r))
+    subst⁻¹ (λ (q : Record). Holds q × (q .len ≡ j)) e (record-holds j (made j r) (made-permutation j r) l, made-permutation j r .long)
 
 module _ (j r rest : ℕ) (e : rest ≡ r / factorial j) where
   pub make-more : (p q : Record) → p ≡ recordOf (made j r) → q ≡ recordOf (lastly (rest % (j + 1)) (wordOf p)) → q ≡ recordOf (made (j + 1) r)

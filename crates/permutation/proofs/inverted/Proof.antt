@@ -10,10 +10,10 @@ use Rattle.permutation.proofs.inverted.Statement.{statement}
 use Rattle.permutation.proofs.inverted.Tie as tie
 
 abbrev Inv-loop : tie.InvT-loop
-Inv-loop p n out₀ i₀ out i = (i ≤ n) × Inverted (wordOf p) n i out
+Inv-loop p n places₀ i₀ places i = (i ≤ n) × Inverted (wordOf p) n i places
 
 abbrev μ-loop : tie.MeasureT-loop
-μ-loop p n out₀ i₀ out i = n - i
+μ-loop p n places₀ i₀ places i = n - i
 
 loop-holds : tie.Need-loop-holds Inv-loop μ-loop
 loop-holds c = (omega arith, invert-none (wordOf (c .args .t1)) (c .args .t1 .len))
@@ -24,13 +24,13 @@ mul-x c = omega (arith, c .before .before .pre .short)
 element-copy-out-x : tie.Need-element-copy-out-x Inv-loop μ-loop
 element-copy-out-x c = omega (arith, c .before .before .pre .short)
 
-mul-out : tie.Need-mul-out Inv-loop μ-loop
-mul-out c =
+mul-places : tie.Need-mul-places Inv-loop μ-loop
+mul-places c =
     let s = c .before .before .before in
     omega (arith, s .pre .short, holds-below (s .args .t1) (s .pre) (c .before .before .loop .i) (c .before .loop-test .taken))
 
-array-write-out : tie.Need-array-write-out Inv-loop μ-loop
-array-write-out c =
+array-write-places : tie.Need-array-write-places Inv-loop μ-loop
+array-write-places c =
     let s = c .before .before .before in
     omega (arith, s .pre .short, holds-below (s .args .t1) (s .pre) (c .before .before .loop .i) (c .before .loop-test .taken))
 
@@ -46,15 +46,15 @@ loop-again c =
     let l = c .before .before .loop in
     let h = c .before .loop-test .taken in (
       omega arith,
-      rw (word-at (s .args .t1) (l .i) h) at (invert-more (wordOf (s .args .t1)) (s .args .t1 .len) (l .i) (l .out) (s .pre .permutation) (s .pre .short) h (l .inv .1)),
+      rw (word-at (s .args .t1) (l .i) h) at (invert-more (wordOf (s .args .t1)) (s .args .t1 .len) (l .i) (l .places) (s .pre .permutation) (s .pre .short) h (l .inv .1)),
     )
 
 returns : tie.Need-returns Inv-loop μ-loop
 returns c =
     let s = c .before .before in
     let l = c .before .loop in
-    filled-record (inverse (wordOf (s .args .t1))) (l .out) (s .args .t1 .len) (s .args .t1 .len)
-    (inverted-all (wordOf (s .args .t1)) (s .args .t1 .len) (l .i) (l .out) (s .pre .permutation) (c .loop-test .left) (l .inv .1)) (omega arith)
+    filled-record (inverse (wordOf (s .args .t1))) (l .places) (s .args .t1 .len) (s .args .t1 .len)
+    (inverted-all (wordOf (s .args .t1)) (s .args .t1 .len) (l .i) (l .places) (s .pre .permutation) (c .loop-test .left) (l .inv .1)) (omega arith)
     (inverse-long (s .args .t1 .len) (wordOf (s .args .t1)) (s .pre .permutation)) (s .pre .short)
 
 pub inverted-spec : {M : Type 1} → statement M
@@ -66,8 +66,8 @@ inverted-spec =
     loop-holds
     mul-x
     element-copy-out-x
-    mul-out
-    array-write-out
+    mul-places
+    array-write-places
     add-i
     loop-less
     loop-again
