@@ -8,10 +8,11 @@
 import itertools
 import re
 import sys
-from math import comb
+from math import comb, factorial, prod
 
 MAX_LINE, MAX_LIST = 4096, 80
-TOO_WIDE, NOT_MONOTONE, NO_SUCH_RANK, LAST, OUTSIDE, SHAPE = 1, 2, 3, 4, 7, 8
+TOO_WIDE, NOT_MONOTONE, NO_SUCH_RANK, LAST, REPEATED = 1, 2, 3, 4, 5
+FAMILY_DIFFERS, OUTSIDE, SHAPE, TOO_BIG = 6, 7, 8, 9
 
 
 class Refused(Exception):
@@ -109,6 +110,54 @@ def walk(family, n, k, s):
     return bits_of(set_of_rank(k, s - 1))
 
 
+# ---- signs: a word with the sign of its inversions
+
+def sign_of(word):
+    inversions = sum(x > y for x, y in itertools.combinations(word, 2))
+    return "-" if inversions % 2 else "+"
+
+
+def sorted_term(family, word):
+    refuse_if(family == "forbidden" and len(set(word)) < len(word), REPEATED)
+    return [sign_of(word) if family == "forbidden" else "+", pack(family, sorted(word))]
+
+
+def canonical(family, word):
+    refuse_if(len(word) > 64, TOO_WIDE)
+    return sorted_term(family, word)
+
+
+def merge(family, x, other, y):
+    refuse_if(family != other, FAMILY_DIFFERS)
+    return sorted_term(family, word_of(family, x) + word_of(other, y))
+
+
+def delete(family, bits, p):
+    word = word_of(family, bits)
+    refuse_if(p >= len(word), OUTSIDE)
+    left = word[:p] + word[p + 1:]
+    return [sign_of([word[p]] + left) if family == "forbidden" else "+", word[p], pack(family, left)]
+
+
+def complement(family, bits, n):
+    refuse_if(family == "allowed", FAMILY_DIFFERS)
+    refuse_if(n > 64, TOO_WIDE)
+    word = set_of(bits)
+    refuse_if(any(s >= n for s in word), OUTSIDE)
+    rest = [s for s in range(n) if s not in word]
+    return [sign_of(word + rest), bits_of(rest)]
+
+
+def fitting(n):
+    refuse_if(n >= 2**64, TOO_BIG)
+    return n
+
+
+def stabilizer(family, bits):
+    word = word_of(family, bits)
+    return fitting(prod(factorial(word.count(s)) for s in set(word)))
+
+
 # ---- the requests: a pattern of the words after the verb (F a family, n a number, * a list), and the answer
 
 REQUESTS = {
@@ -124,6 +173,11 @@ REQUESTS = {
     "next": ("F n", lambda room, f, x: successor(f, x)),
     "symbol": ("F n n", lambda room, f, x, p: symbol(f, x, p)),
     "degree": ("F n", lambda room, f, x: len(set_of(x))),
+    "canonical": ("F *", lambda room, f, w: canonical(f, w)),
+    "merge": ("F n F n", lambda room, f, x, g, y: merge(f, x, g, y)),
+    "delete": ("F n n", lambda room, f, x, p: delete(f, x, p)),
+    "complement": ("F n n", lambda room, f, x, n: complement(f, x, n)),
+    "stabilizer": ("F n", lambda room, f, x: stabilizer(f, x)),
 }
 
 

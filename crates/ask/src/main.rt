@@ -5,6 +5,7 @@ ghost use lib.ListN.{length};
 
 mod reply;
 mod request;
+mod signed;
 mod terms;
 
 use reply::Reply;
@@ -21,7 +22,15 @@ fn reply_to(verb: &[u8], kinds: &[u8], values: &[u64], lent: &mut [u64]) -> Repl
     let Reply::Bad = r else {
         return r;
     };
-    terms::of_index(verb, kinds, values, lent)
+    let r = terms::of_index(verb, kinds, values, lent);
+    let Reply::Bad = r else {
+        return r;
+    };
+    let r = signed::products(verb, kinds, values);
+    let Reply::Bad = r else {
+        return r;
+    };
+    signed::of_index(verb, kinds, values)
 }
 
 fn answer_verb(

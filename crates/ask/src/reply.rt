@@ -2,6 +2,9 @@
 use answers::Answer;
 use answers::Indexed;
 use answers::Refusal;
+use answers::Sign;
+use answers::Signed;
+use deletion::Deleted;
 
 // What a request is answered with.
 pub(crate) enum Reply {
@@ -9,6 +12,8 @@ pub(crate) enum Reply {
     Bad,
     Number(Answer),
     Index(Indexed),
+    Signed(Signed),
+    Deleted(Deleted),
     // how many of the lent places a call has written
     Places(Answer),
 }
@@ -40,6 +45,40 @@ pub(crate) fn index(out: &mut [u8], at: usize, a: Indexed) -> usize {
     match a {
         Indexed::At(x) => number(out, at, x.bits),
         Indexed::Refused(e) => refusal(out, at, e),
+    }
+}
+
+// A sign.
+fn sign(out: &mut [u8], at: usize, s: Sign) -> usize {
+    match s {
+        Sign::Plus => text::put_byte(out, at, b'+'),
+        Sign::Minus => text::put_byte(out, at, b'-'),
+    }
+}
+
+// A sign and the bits of an index, or a refusal.
+fn signed(out: &mut [u8], at: usize, a: Signed) -> usize {
+    match a {
+        Signed::At(s, x) => {
+            let at = sign(out, at, s);
+            let at = text::put_byte(out, at, b' ');
+            number(out, at, x.bits)
+        }
+        Signed::Refused(e) => refusal(out, at, e),
+    }
+}
+
+// A sign, the deleted symbol and the bits of what is left, or a refusal.
+fn deleted(out: &mut [u8], at: usize, a: Deleted) -> usize {
+    match a {
+        Deleted::At(s, symbol, x) => {
+            let at = sign(out, at, s);
+            let at = text::put_byte(out, at, b' ');
+            let at = text::put_number(out, at, symbol);
+            let at = text::put_byte(out, at, b' ');
+            number(out, at, x.bits)
+        }
+        Deleted::Refused(e) => refusal(out, at, e),
     }
 }
 
@@ -83,6 +122,8 @@ pub(crate) fn put(out: &mut [u8], at: usize, r: Reply, lent: &[u64]) -> usize {
         Reply::Bad => bad(out, at),
         Reply::Number(a) => answer(out, at, a),
         Reply::Index(a) => index(out, at, a),
+        Reply::Signed(a) => signed(out, at, a),
+        Reply::Deleted(a) => deleted(out, at, a),
         Reply::Places(a) => places(out, at, a, lent),
     }
 }
