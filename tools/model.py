@@ -158,6 +158,25 @@ def stabilizer(family, bits):
     return fitting(prod(factorial(word.count(s)) for s in set(word)))
 
 
+# ---- sets
+
+def insert(bits, s):
+    refuse_if(s > 63, OUTSIDE)
+    refuse_if(s in set_of(bits), REPEATED)
+    return bits_of(set_of(bits) + [s])
+
+
+def position(bits, s):
+    refuse_if(s not in set_of(bits), OUTSIDE)
+    return set_of(bits).index(s)
+
+
+def select(bits, positions):
+    symbols = set_of(bits)
+    refuse_if(any(p >= len(symbols) for p in set_of(positions)), OUTSIDE)
+    return bits_of(symbols[p] for p in set_of(positions))
+
+
 # ---- the requests: a pattern of the words after the verb (F a family, n a number, * a list), and the answer
 
 REQUESTS = {
@@ -178,6 +197,10 @@ REQUESTS = {
     "delete": ("F n n", lambda room, f, x, p: delete(f, x, p)),
     "complement": ("F n n", lambda room, f, x, n: complement(f, x, n)),
     "stabilizer": ("F n", lambda room, f, x: stabilizer(f, x)),
+    "insert": ("n n", lambda room, x, s: insert(x, s)),
+    "contains": ("n n", lambda room, x, s: "yes" if s in set_of(x) else "no"),
+    "position": ("n n", lambda room, x, s: position(x, s)),
+    "select": ("n n", lambda room, x, p: select(x, p)),
 }
 
 

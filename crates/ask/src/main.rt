@@ -5,6 +5,7 @@ ghost use lib.ListN.{length};
 
 mod reply;
 mod request;
+mod sets;
 mod signed;
 mod terms;
 
@@ -30,7 +31,11 @@ fn reply_to(verb: &[u8], kinds: &[u8], values: &[u64], lent: &mut [u64]) -> Repl
     let Reply::Bad = r else {
         return r;
     };
-    signed::of_index(verb, kinds, values)
+    let r = signed::of_index(verb, kinds, values);
+    let Reply::Bad = r else {
+        return r;
+    };
+    sets::of_set(verb, kinds, values)
 }
 
 fn answer_verb(

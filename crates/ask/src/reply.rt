@@ -14,6 +14,7 @@ pub(crate) enum Reply {
     Index(Indexed),
     Signed(Signed),
     Deleted(Deleted),
+    Truth(bool),
     // how many of the lent places a call has written
     Places(Answer),
 }
@@ -82,6 +83,14 @@ fn deleted(out: &mut [u8], at: usize, a: Deleted) -> usize {
     }
 }
 
+// Yes or no.
+fn truth(out: &mut [u8], at: usize, a: bool) -> usize {
+    if a {
+        return text::put(out, at, b"yes\n");
+    }
+    text::put(out, at, b"no\n")
+}
+
 // The i-th number of a list, after a space where it is not the first.
 fn item(out: &mut [u8], at: usize, i: usize, n: u64) -> usize {
     if i == 0 {
@@ -124,6 +133,7 @@ pub(crate) fn put(out: &mut [u8], at: usize, r: Reply, lent: &[u64]) -> usize {
         Reply::Index(a) => index(out, at, a),
         Reply::Signed(a) => signed(out, at, a),
         Reply::Deleted(a) => deleted(out, at, a),
+        Reply::Truth(a) => truth(out, at, a),
         Reply::Places(a) => places(out, at, a, lent),
     }
 }
