@@ -1,6 +1,5 @@
 // What document 01's program writes for one line: the header, and the words of a family in their order.
-ghost use Prim.Native.Nat.{_≤_};
-ghost use lib.ListN.{length};
+ghost use Rattle.terms_line.specs.Line.{Names, Parses};
 use answers::Answer;
 use answers::Index;
 use answers::Refusal;
@@ -21,7 +20,10 @@ enum Named {
     Nothing,
 }
 
-fn family(name: &[u8]) -> Named {
+// The family that a word names.
+fn family(name: &[u8]) -> Named
+    ensures { λ r. ⌜ Names (now (name .entry)) r ⌝ }
+{
     if check::same(name, b"forbidden") {
         return Named::Family(Family::Forbidden);
     }
@@ -32,7 +34,9 @@ fn family(name: &[u8]) -> Named {
 }
 
 // A line is `forbidden` or `allowed`, one space, n, one space, k, and nothing else.
-fn parse(line: &[u8]) -> Line {
+fn parse(line: &[u8]) -> Line
+    ensures { λ r. ⌜ Parses (now (line .entry)) r ⌝ }
+{
     let a = text::find(line, 0, b' ');
     if a == line.len() {
         return Line::Bad;
