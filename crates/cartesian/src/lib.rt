@@ -14,7 +14,7 @@ use answers::Answer;
 use answers::Refusal;
 
 // Whether a times b is 2^64 or more. The product is not formed.
-fn exceeds(a: u64, b: u64) -> bool
+pub fn exceeds(a: u64, b: u64) -> bool
     ensures { λ r. ⌜ r ≡ leb (2 ^ 64) (a * b) ⌝ }
 {
     if a == 0 {

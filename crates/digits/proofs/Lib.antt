@@ -1,0 +1,5 @@
+pub mod Powers
+pub mod Positions
+pub mod Rules
+pub mod Counting
+pub mod Buffer

@@ -1,0 +1,68 @@
+-- What each call on digit words answers, for all inputs, in document 01's numbers: its checks in 01's order, and then the value. A digit word is its radix, its
+-- degree and its rank; its symbols are the digits of the rank in as many equal radices as the degree says. Assumes nothing.
+--   symbolsOf x    the symbols, that of position 0 first
+--   wordOf n w    the digit word over radix n that has the symbols w
+--   countSays n k    1 if k is above 64; 9; the count n ^ k
+--   checkSays x    the checks of a given word: those of its count; 3 if the rank is not below it; the count
+--   given x s    these checks, and then s
+--   symbolsSays x room    these; 8; the symbols
+--   symbolSays x p    these; 7; the symbol at position p
+--   multiplicitySays x s    these; how many positions carry s
+--   stabilizerSays x    these; 9; the stabilizer of the symbols
+--   fromSymbolsSays n w    1 if there are more than 64; 7 if a symbol is not below the radix; 9; the digit word
+--   wordedSays    what each case of an answer means
+use mathlib.Core.Bool.{not}
+use mathlib.Core.List.{List}
+use Prim.Native.Nat.{ℕ, _^_}
+use lib.Dec.{leb, ltb}
+use lib.ListN.{length, getD, replicate}
+use Rattle.words.specs.Inversions.{multiplicity}
+use Rattle.answers.specs.Says.{Says, refuses, gives, refusedIf, andThen, numberOf as refusalOf}
+use Rattle.packing.specs.Checks.{allBelow}
+use Rattle.positional.specs.Positional.{numberOf, digitsOf}
+use Rattle.cartesian.specs.Checks.{fits}
+use Rattle.deletion.specs.Multiplicities.{stabilizerOf}
+use Rattle.digits.specs.declared.DigitWord.{DigitWord}
+use Rattle.digits.specs.declared.Worded.{Worded}
+use Rattle.digits.specs.declared.Worded.the-variants as worded
+
+abbrev pub symbolsOf : DigitWord → List ℕ
+symbolsOf x = digitsOf (replicate (x .degree) (x .radix)) (x .rank)
+
+abbrev pub wordOf : ℕ → List ℕ → DigitWord
+wordOf n w = record { radix = n; degree = length w; rank = numberOf (replicate (length w) n) w }
+
+-- ---- the count, and the checks of a given word
+
+abbrev pub countSays : ℕ → ℕ → Says ℕ
+countSays n k = refusedIf (ltb 64 k) 1 (fits (n ^ k))
+
+abbrev pub checkSays : DigitWord → Says ℕ
+checkSays x = andThen (countSays (x .radix) (x .degree)) (λ c. refusedIf (leb c (x .rank)) 3 (gives c))
+
+abbrev pub given : {A : Type 0} → DigitWord → Says A → Says A
+given x s = andThen (checkSays x) (λ c. s)
+
+-- ---- the symbols
+
+abbrev pub symbolsSays : DigitWord → ℕ → Says (List ℕ)
+symbolsSays x room = given x (refusedIf (ltb room (x .degree)) 8 (gives (symbolsOf x)))
+
+abbrev pub symbolSays : DigitWord → ℕ → Says ℕ
+symbolSays x p = given x (refusedIf (leb (x .degree) p) 7 (gives (getD (symbolsOf x) p 0)))
+
+abbrev pub multiplicitySays : DigitWord → ℕ → Says ℕ
+multiplicitySays x s = given x (gives (multiplicity s (symbolsOf x)))
+
+abbrev pub stabilizerSays : DigitWord → Says ℕ
+stabilizerSays x = given x (fits (stabilizerOf (symbolsOf x)))
+
+abbrev pub fromSymbolsSays : ℕ → List ℕ → Says DigitWord
+fromSymbolsSays n w =
+    refusedIf (ltb 64 (length w)) 1 (refusedIf (not (allBelow n w)) 7 (refusedIf (leb (2 ^ 64) (n ^ length w)) 9 (gives (wordOf n w))))
+
+-- ---- what each case of an answer means
+
+abbrev pub wordedSays : Worded → Says DigitWord
+wordedSays (worded.Is x) = gives x
+wordedSays (worded.Refused e) = refuses (refusalOf e)
