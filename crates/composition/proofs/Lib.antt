@@ -4,3 +4,4 @@ pub mod Spelling
 pub mod Tallying
 pub mod Passing
 pub mod Promises
+pub mod Examples

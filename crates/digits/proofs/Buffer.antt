@@ -12,7 +12,7 @@ use Rattle.answers.specs.Says.{Says, refuses, gives, placesOf, after}
 use Rattle.answers.proofs.Says.{gives-same, gives-no-refusal}
 use Rattle.digits.specs.declared.DigitWord.{DigitWord}
 use Rattle.digits.specs.Rules.{symbolsOf, checkSays, symbolsSays}
-use Rattle.digits.proofs.Rules.{Known, known, given-refused, symbols-given}
+use Rattle.digits.proofs.Rules.{known, given-refused, symbols-given}
 
 pub record Spelt (x : DigitWord) (k : ℕ) (word : List ℕ) : Type 0 where
   pub count : ℕ

@@ -3,3 +3,6 @@ pub mod Positions
 pub mod Rules
 pub mod Counting
 pub mod Buffer
+pub mod Joining
+pub mod Promises
+pub mod Examples

@@ -4,17 +4,15 @@
 --   radix-positive    a word with a rank and a position has a radix that is not 0
 --   power-positive    a power of a radix that is not 0 is not 0
 --   power-within    a power that is no greater than another fits where that does
-use mathlib.Core.Path.{_≡_, refl, sym, ap, _∙_}
+use mathlib.Core.Path.{_≡_, sym, ap, _∙_}
 use mathlib.Core.Bool.{true}
-use mathlib.Core.List.{List}
 use Prim.Native.Nat.{ℕ, zero, suc, _+_, _*_, _^_, _≤_, _<_, zero-le}
-use native.Mathlib.Nat.{le-trans, mul-comm, mul-zero, pow-zero, pow-succ', pow-le-pow-right, zero-lt-suc}
+use native.Mathlib.Nat.{mul-comm, mul-zero, pow-zero, pow-succ', pow-le-pow-right, zero-lt-suc}
 use native.Mathlib.Numerals.{add-one}
 use native.Mathlib.Omega.{arith}
-use borrow.Author.Tests.{le-leb, lt-leb, leb-true}
+use borrow.Author.Tests.{le-leb, leb-true}
 use lib.Dec.{leb}
-use lib.ListN.{length, getD, replicate, length-replicate, getD-replicate}
-use Rattle.answers.specs.Says.{refuses, gives}
+use Rattle.answers.specs.Says.{refuses}
 use Rattle.cartesian.specs.Checks.{fits}
 
 pub power-turn : (n i p : ℕ) → p ≡ n ^ i → p * n ≡ n ^ (i + 1)

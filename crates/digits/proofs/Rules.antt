@@ -7,7 +7,7 @@
 --   radix-some    a known word with a position has a radix that is not 0
 --   stride-is, stride-some, stride-refused    the stride of a position: what it is, that it is not 0, and that it is never refused
 --   symbols-short, symbols-given    what the symbols of a known word say
-use mathlib.Core.Path.{_≡_, refl, sym, ap, subst, _∙_}
+use mathlib.Core.Path.{_≡_, refl, sym, ap, _∙_}
 use mathlib.Core.Bool.{Bool, true, false}
 use Prim.Native.Nat.{ℕ, _^_, _≤_, _<_}
 use native.Mathlib.Omega.{arith}

@@ -10,21 +10,28 @@
 --   multiplicitySays x s    these; how many positions carry s
 --   stabilizerSays x    these; 9; the stabilizer of the symbols
 --   fromSymbolsSays n w    1 if there are more than 64; 7 if a symbol is not below the radix; 9; the digit word
---   wordedSays    what each case of an answer means
+--   joinSays x y    8 if the radices differ; 1; 9; the word of the symbols of x, and then those of y
+--   concatSays x y    the checks of x; those of y; and then these
+--   Taken    a symbol and what is left without it
+--   takeSays x p    7; the symbol at position p, and the word without that position
+--   deleteSays x p    the checks of x; and then these
+--   wordedSays, deletedSays    what each case of an answer means
 use mathlib.Core.Bool.{not}
-use mathlib.Core.List.{List}
-use Prim.Native.Nat.{ℕ, _^_}
-use lib.Dec.{leb, ltb}
+use mathlib.Core.List.{List, _++_}
+use Prim.Native.Nat.{ℕ, _+_, _^_}
+use lib.Dec.{leb, ltb, eqb}
 use lib.ListN.{length, getD, replicate}
 use Rattle.words.specs.Inversions.{multiplicity}
 use Rattle.answers.specs.Says.{Says, refuses, gives, refusedIf, andThen, numberOf as refusalOf}
 use Rattle.packing.specs.Checks.{allBelow}
-use Rattle.positional.specs.Positional.{numberOf, digitsOf}
+use Rattle.positional.specs.Positional.{numberOf, digitsOf, without}
 use Rattle.cartesian.specs.Checks.{fits}
 use Rattle.deletion.specs.Multiplicities.{stabilizerOf}
 use Rattle.digits.specs.declared.DigitWord.{DigitWord}
 use Rattle.digits.specs.declared.Worded.{Worded}
 use Rattle.digits.specs.declared.Worded.the-variants as worded
+use Rattle.digits.specs.declared.Deleted.{Deleted}
+use Rattle.digits.specs.declared.Deleted.the-variants as deleted
 
 abbrev pub symbolsOf : DigitWord → List ℕ
 symbolsOf x = digitsOf (replicate (x .degree) (x .radix)) (x .rank)
@@ -61,8 +68,38 @@ abbrev pub fromSymbolsSays : ℕ → List ℕ → Says DigitWord
 fromSymbolsSays n w =
     refusedIf (ltb 64 (length w)) 1 (refusedIf (not (allBelow n w)) 7 (refusedIf (leb (2 ^ 64) (n ^ length w)) 9 (gives (wordOf n w))))
 
+-- ---- concatenation and deletion
+
+-- two words that have passed their checks
+abbrev pub joinSays : DigitWord → DigitWord → Says DigitWord
+joinSays x y =
+    refusedIf (not (eqb (x .radix) (y .radix))) 8
+    (refusedIf (ltb 64 (x .degree + y .degree)) 1
+    (refusedIf (leb (2 ^ 64) (x .radix ^ (x .degree + y .degree))) 9
+    (gives (wordOf (x .radix) (symbolsOf x ++ symbolsOf y)))))
+
+abbrev pub concatSays : DigitWord → DigitWord → Says DigitWord
+concatSays x y = given x (given y (joinSays x y))
+
+pub record Taken : Type 0 where
+  pub symbol : ℕ
+  pub left : DigitWord
+
+-- a word that has passed its checks
+abbrev pub takeSays : DigitWord → ℕ → Says Taken
+takeSays x p =
+    refusedIf (leb (x .degree) p) 7
+    (gives (record { symbol = getD (symbolsOf x) p 0; left = wordOf (x .radix) (without p (symbolsOf x)) }))
+
+abbrev pub deleteSays : DigitWord → ℕ → Says Taken
+deleteSays x p = given x (takeSays x p)
+
 -- ---- what each case of an answer means
 
 abbrev pub wordedSays : Worded → Says DigitWord
 wordedSays (worded.Is x) = gives x
 wordedSays (worded.Refused e) = refuses (refusalOf e)
+
+abbrev pub deletedSays : Deleted → Says Taken
+deletedSays (deleted.At s x) = gives (record { symbol = s; left = x })
+deletedSays (deleted.Refused e) = refuses (refusalOf e)

@@ -9,7 +9,7 @@ ghost use Rattle.answers.specs.Says.{answerSays, placesOf, after, gives};
 ghost use Rattle.positional.specs.Positional.{numberOf, digitsOf};
 ghost use Rattle.cartesian.specs.Checks.{fits};
 ghost use Rattle.deletion.specs.Multiplicities.{stabilizerOf};
-ghost use Rattle.digits.specs.Rules.{countSays, checkSays, symbolsSays, symbolSays, multiplicitySays, stabilizerSays, fromSymbolsSays, wordedSays};
+ghost use Rattle.digits.specs.Rules.{countSays, checkSays, symbolsSays, symbolSays, multiplicitySays, stabilizerSays, fromSymbolsSays, concatSays, deleteSays, wordedSays, deletedSays};
 use answers::Answer;
 use answers::Refusal;
 
@@ -23,6 +23,12 @@ pub struct DigitWord {
 // A digit word, or why there is none.
 pub enum Worded {
     Is(DigitWord),
+    Refused(Refusal),
+}
+
+// A symbol and the digit word without it, or why there are none.
+pub enum Deleted {
+    At(u64, DigitWord),
     Refused(Refusal),
 }
 
@@ -216,4 +222,75 @@ pub fn from_symbols(radix: u64, symbols: &[u64]) -> Worded
         degree,
         rank,
     })
+}
+
+// The word of the symbols of x, which stand lowest, followed by those of y: the checks of x; those of y; 8 if the radices differ; 1; 9.
+pub fn concat(x: DigitWord, y: DigitWord) -> Worded
+    ensures { λ r. ⌜ wordedSays r ≡ concatSays x y ⌝ }
+{
+    let radix = x.radix;
+    let low = x.rank;
+    let high = y.rank;
+    let a = check(x);
+    let Answer::Is(stride) = a else {
+        let Answer::Refused(e) = a else {
+            return Worded::Refused(Refusal::TooWide);
+        };
+        return Worded::Refused(e);
+    };
+    let b = check(y);
+    let Answer::Is(_) = b else {
+        let Answer::Refused(e) = b else {
+            return Worded::Refused(Refusal::TooWide);
+        };
+        return Worded::Refused(e);
+    };
+    if radix != y.radix {
+        return Worded::Refused(Refusal::Shape);
+    }
+    let degree = x.degree + y.degree;
+    if 64 < degree {
+        return Worded::Refused(Refusal::TooWide);
+    }
+    let Answer::Is(_) = power(radix, degree) else {
+        return Worded::Refused(Refusal::TooBig);
+    };
+    let rank = low + high * stride;
+    Worded::Is(DigitWord {
+        radix,
+        degree,
+        rank,
+    })
+}
+
+// The symbol at a position, and the word without it: 1, 9, 3; 7 if there is no such position. The positions above slide down and close the gap.
+pub fn delete(x: DigitWord, p: u64) -> Deleted
+    ensures { λ r. ⌜ deletedSays r ≡ deleteSays x p ⌝ }
+{
+    let radix = x.radix;
+    let rank = x.rank;
+    let a = check(x);
+    let Answer::Is(_) = a else {
+        let Answer::Refused(e) = a else {
+            return Deleted::Refused(Refusal::TooWide);
+        };
+        return Deleted::Refused(e);
+    };
+    if x.degree <= p {
+        return Deleted::Refused(Refusal::Outside);
+    }
+    let Answer::Is(stride) = power(radix, p) else {
+        return Deleted::Refused(Refusal::TooBig);
+    };
+    let symbol = rank / stride % radix;
+    let degree = x.degree - 1;
+    let rank = rank % stride + rank / stride / radix * stride;
+    Deleted::At(
+        symbol,
+        DigitWord {
+            radix,
+            degree,
+            rank,
+        },
+    )
 }

@@ -1,4 +1,4 @@
--- `digits::check` meets its contract. Assumes nothing.
+-- `digits::check` meets its contract: a refusal of the count is passed on. Assumes nothing.
 use mathlib.Core.Path.{sym, ap, _∙_}
 use Rattle.answers.specs.Says.{answerSays}
 use Rattle.digits.proofs.Rules.{checked-refused, checked-none, checked-is}

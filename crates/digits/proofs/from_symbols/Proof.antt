@@ -1,4 +1,4 @@
--- `digits::from_symbols` meets its contract. Assumes nothing.
+-- `digits::from_symbols` meets its contract: each return by the checks that led there. Assumes nothing.
 use mathlib.Core.Path.{sym, ap, _∙_}
 use Prim.Native.Nat.{_^_}
 use borrow.Author.Tests.{lt-ltb, le-ltb, lt-leb, not-true, not-false}

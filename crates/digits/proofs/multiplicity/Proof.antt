@@ -1,4 +1,4 @@
--- `digits::multiplicity` meets its contract. Assumes nothing.
+-- `digits::multiplicity` meets its contract: the symbols are written into a buffer and counted. Assumes nothing.
 use mathlib.Core.Path.{sym, ap, _∙_}
 use Rattle.words.specs.Inversions.{multiplicity as multiplicityOf}
 use Rattle.answers.specs.Says.{gives, answerSays}

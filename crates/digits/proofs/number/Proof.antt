@@ -1,4 +1,4 @@
--- `digits::number` meets its contract. Assumes nothing.
+-- `digits::number` meets its contract. The invariant: the number of the symbols from position i up. Assumes nothing.
 use mathlib.Core.Path.{subst}
 use Prim.Native.Nat.{_≤_}
 use native.Mathlib.Omega.{arith}

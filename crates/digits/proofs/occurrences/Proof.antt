@@ -1,4 +1,4 @@
--- `digits::occurrences` meets its contract. Assumes nothing.
+-- `digits::occurrences` meets its contract. The invariant: how often the symbol has occurred. Assumes nothing.
 use mathlib.Core.Path.{_≡_, refl, ap, _∙_}
 use mathlib.Core.Logic.{⊎-elim, ⊎-map}
 use Prim.Native.Nat.{ℕ, _≤_, _-_}

@@ -1,4 +1,4 @@
--- `digits::power` meets its contract. Assumes nothing.
+-- `digits::power` meets its contract. The invariant: the power so far, which fits. Assumes nothing.
 use mathlib.Core.Path.{_≡_, sym, ap, _∙_}
 use Prim.Native.Nat.{ℕ, _≤_, _<_, _-_, _*_, _^_}
 use native.Mathlib.Nat.{pow-zero}

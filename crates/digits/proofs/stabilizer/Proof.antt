@@ -1,4 +1,4 @@
--- `digits::stabilizer` meets its contract. Assumes nothing.
+-- `digits::stabilizer` meets its contract: the symbols are written into a buffer and multiplied up. Assumes nothing.
 use mathlib.Core.Path.{sym, ap, _∙_}
 use Rattle.answers.specs.Says.{answerSays}
 use Rattle.cartesian.specs.Checks.{fits}

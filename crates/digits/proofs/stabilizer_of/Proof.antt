@@ -1,4 +1,4 @@
--- `digits::stabilizer_of` meets its contract. Assumes nothing.
+-- `digits::stabilizer_of` meets its contract, by the laws of `Counting`. Assumes nothing.
 use mathlib.Core.Path.{sym, _∙_}
 use Prim.Native.Nat.{_≤_, _-_, _*_, _^_}
 use native.Mathlib.Omega.{arith}

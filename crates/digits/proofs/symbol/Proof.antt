@@ -1,4 +1,4 @@
--- `digits::symbol` meets its contract. Assumes nothing.
+-- `digits::symbol` meets its contract: the stride of a position of a known word is never refused. Assumes nothing.
 use Rattle.digits.proofs.Rules.{known, given-passed, given-refused, radix-some, stride-is, stride-some, stride-refused}
 use mathlib.Core.Path.{sym, ap, _∙_}
 use borrow.Author.Tests.{le-leb, lt-leb}

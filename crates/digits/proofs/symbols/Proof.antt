@@ -1,7 +1,6 @@
--- `digits::symbols` meets its contract. Assumes nothing.
+-- `digits::symbols` meets its contract: a refusal of the checks is passed on. Assumes nothing.
 use Rattle.digits.proofs.Rules.{known, given-refused, symbols-short, symbols-given}
 use mathlib.Core.Path.{sym, ap, _∙_}
-use borrow.Author.Tests.{lt-ltb, le-ltb}
 use lib.Dec.{ltb}
 use lib.ListN.{length}
 use Rattle.answers.specs.Says.{gives, refusedIf, answerSays, placesOf, after}

@@ -1,4 +1,4 @@
--- `digits::write_symbols` meets its contract. Assumes nothing.
+-- `digits::write_symbols` meets its contract, as the digits of a shape of equal radices are written. Assumes nothing.
 use Prim.Native.Nat.{_≤_, _-_}
 use native.Mathlib.Omega.{arith}
 use lib.ListN.{replicate}
