@@ -1,27 +1,15 @@
--- Worked examples of what the calls on shapes say (01, "Numbers checked by hand", 10 and 12; the edges of the rule for 9, radices of 0, no axes). Assumes nothing.
+-- Worked examples of what the calls on shapes say, beyond those of `promises` (the edges of the rule for 9, radices of 0, no axes). Assumes nothing.
 use mathlib.Core.Path.{_≡_, refl}
 use mathlib.Core.List.{List, [], _∷_}
 use Prim.Native.Nat.{ℕ, _^_}
 use lib.ListN.{replicate}
 use Rattle.words.specs.Bits.{onesFrom}
-use Rattle.positional.specs.Positional.{product, numberOf, digitsOf, cornerOf}
+use Rattle.positional.specs.Positional.{product, digitsOf, cornerOf}
 use Rattle.answers.specs.Says.{refuses, gives}
 use Rattle.cartesian.specs.Rules.{countSays, stridesSays, linearizeSays, delinearizeSays, cornerSays}
 
 abbrev cube : List ℕ
 cube = 2 ∷ 3 ∷ 4 ∷ []
-
-cube-count : countSays cube ≡ gives 24
-unfolding product
-cube-count = refl
-
-cube-strides : stridesSays cube 3 ≡ gives (1 ∷ 2 ∷ 6 ∷ [])
-unfolding product
-cube-strides = refl
-
-cube-number : linearizeSays cube (1 ∷ 2 ∷ 3 ∷ []) ≡ gives 23
-unfolding product numberOf
-cube-number = refl
 
 cube-tuple : delinearizeSays cube 23 3 ≡ gives (1 ∷ 2 ∷ 3 ∷ [])
 unfolding product digitsOf
@@ -30,10 +18,6 @@ cube-tuple = refl
 cube-corner : cornerSays cube 6 ≡ gives 8
 unfolding product cornerOf onesFrom
 cube-corner = refl
-
-corner-of-two : cornerSays (2 ^ 63 ∷ 1 ∷ 1 ∷ []) 6 ≡ refuses 9
-unfolding product cornerOf onesFrom
-corner-of-two = refl
 
 -- ---- the rule for 9
 

@@ -1,25 +1,17 @@
--- Small cases, by computation (01, "Numbers checked by hand", and the corner cases of the radix 0 and of the stabilizer). Assumes nothing.
+-- Small cases, by computation, beyond those of `promises` (the largest count, the corner cases of the radix 0 and of the stabilizer). Assumes nothing.
 use mathlib.Core.Path.{_≡_, refl}
 use mathlib.Core.List.{[], _∷_}
 use Prim.Native.Nat.{ℕ}
 use Rattle.words.specs.Factorial.{factorial}
 use Rattle.words.specs.Inversions.{multiplicity}
 use Rattle.answers.specs.Says.{refuses, gives}
-use Rattle.positional.specs.Positional.{numberOf, digitsOf}
+use Rattle.positional.specs.Positional.{digitsOf}
 use Rattle.deletion.specs.Multiplicities.{ceilingOf, stabilizerBelow}
 use Rattle.digits.specs.declared.DigitWord.{DigitWord}
-use Rattle.digits.specs.Rules.{countSays, checkSays, stabilizerSays, fromSymbolsSays, concatSays, deleteSays}
+use Rattle.digits.specs.Rules.{countSays, checkSays, stabilizerSays, fromSymbolsSays, concatSays}
 
 abbrev word : ℕ → ℕ → ℕ → DigitWord
 word n k r = record { radix = n; degree = k; rank = r }
-
-radix-three : fromSymbolsSays 3 (2 ∷ 0 ∷ 1 ∷ []) ≡ gives (word 3 3 11)
-unfolding numberOf
-radix-three = refl
-
-radix-three-deleted : deleteSays (word 3 3 11) 1 ≡ gives (record { symbol = 0; left = word 3 2 5 })
-unfolding numberOf digitsOf
-radix-three-deleted = refl
 
 largest : countSays 2 63 ≡ gives 9223372036854775808
 largest = refl

@@ -9,11 +9,10 @@
 --   successor-exactly    the successor is the permutation of the next rank
 --   successor-is-next    it is later, and nothing lies between
 --   last-exactly    4 exactly at the identity
---   ranked    01's numbers checked by hand
 use mathlib.Core.Path.{_≡_, refl, sym, ap, subst, subst⁻¹, _∙_}
 use mathlib.Core.Logic.{_↔_}
 use mathlib.Core.Bool.{Bool, true, false}
-use mathlib.Core.List.{List, [], _∷_}
+use mathlib.Core.List.{List}
 use Prim.Native.Nat.{ℕ, suc, _≤_, _<_}
 use native.Mathlib.Decide.{decLe}
 use native.Mathlib.Omega.{arith}
@@ -23,9 +22,8 @@ use lib.ListN.{take}
 use Rattle.words.specs.Colex.{ColexLt}
 use Rattle.words.specs.Factorial.{factorial}
 use Rattle.words.specs.HowMany.{HowMany}
-use Rattle.words.specs.Inversions.{smallerIn}
-use Rattle.arrangements.specs.Permutation.{Permutation as IsPermutation, isPermutation, identity, descending}
-use Rattle.arrangements.specs.Rank.{rankBelow, rankOf, unrankOf}
+use Rattle.arrangements.specs.Permutation.{Permutation as IsPermutation, identity, descending}
+use Rattle.arrangements.specs.Rank.{rankOf, unrankOf}
 use Rattle.arrangements.proofs.Unrank.{unrank-is-a-permutation, rank-of-unrank, unrank-of-rank}
 use Rattle.arrangements.proofs.Counted.{rank-is-below, rank-is-how-many-earlier}
 use Rattle.arrangements.proofs.Ends.{descending-is-a-permutation, descending-rank, identity-rank, last-is-identity}
@@ -169,14 +167,3 @@ module _ (p : Permutation) (l : Whole p) where
       from t =
           successor-of (t .0)
           ∙ simp (le-leb (factorial (p .len)) (suc (rankOf (wordOf p))) (omega (arith, identity-rank (p .len), ap rankOf (t .1))))
-
--- ---- 01's numbers checked by hand, 9
-
--- the record of each list has that rank
-abbrev pub Ranked : List (List ℕ × ℕ) → Type 0
-Ranked [] = Unit {0}
-Ranked (c ∷ cs) = (rankSays (recordOf (c .0)) ≡ gives (c .1)) × Ranked cs
-
-pub ranked : Ranked ((2 ∷ 1 ∷ 0 ∷ [], 0) ∷ (0 ∷ 2 ∷ 1 ∷ [], 3) ∷ (0 ∷ 1 ∷ 2 ∷ [], 5) ∷ ([], 0) ∷ [])
-unfolding taken isPermutation rankBelow factorial smallerIn
-ranked = (refl, (refl, (refl, (refl, tt))))

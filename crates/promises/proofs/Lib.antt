@@ -3,3 +3,4 @@ pub mod Walks
 pub mod Terms
 pub mod Alphabets
 pub mod Signed
+pub mod Checked
