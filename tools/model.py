@@ -12,7 +12,7 @@ from math import comb, factorial, prod
 
 MAX_LINE, MAX_LIST = 4096, 80
 TOO_WIDE, NOT_MONOTONE, NO_SUCH_RANK, LAST, REPEATED = 1, 2, 3, 4, 5
-FAMILY_DIFFERS, OUTSIDE, SHAPE, TOO_BIG = 6, 7, 8, 9
+FAMILY_DIFFERS, OUTSIDE, SHAPE, TOO_BIG, NOT_A_PERMUTATION = 6, 7, 8, 9, 10
 
 
 class Refused(Exception):
@@ -177,7 +177,178 @@ def select(bits, positions):
     return bits_of(symbols[p] for p in set_of(positions))
 
 
-# ---- the requests: a pattern of the words after the verb (F a family, n a number, * a list), and the answer
+# ---- permutations
+
+def permutation(*entries):
+    refuse_if(any(len(p) > 20 for p in entries), TOO_WIDE)
+    refuse_if(len({len(p) for p in entries}) > 1, SHAPE)
+    refuse_if(any(sorted(p) != list(range(len(p))) for p in entries), NOT_A_PERMUTATION)
+
+
+def perm_rank(p):
+    permutation(p)
+    return sum(factorial(j) * sum(x < p[j] for x in p[:j]) for j in range(len(p)))
+
+
+def perm_unrank(n, r):
+    refuse_if(n > 20, TOO_WIDE)
+    refuse_if(r >= factorial(n), NO_SUCH_RANK)
+    left, p = list(range(n)), []
+    for j in reversed(range(n)):
+        d, r = divmod(r, factorial(j))
+        p.insert(0, left.pop(d))
+    return p
+
+
+def perm_next(p):
+    r = perm_rank(p) + 1
+    refuse_if(r == factorial(len(p)), LAST)
+    return perm_unrank(len(p), r)
+
+
+def perm_image(p, i):
+    permutation(p)
+    refuse_if(i >= len(p), OUTSIDE)
+    return p[i]
+
+
+def perm_sign(p):
+    permutation(p)
+    return sign_of(p)
+
+
+def perm_inverse(p):
+    permutation(p)
+    return [p.index(i) for i in range(len(p))]
+
+
+def perm_compose(p, q):
+    permutation(p, q)
+    return [p[x] for x in q]
+
+
+# ---- shapes
+
+def shape(radices):
+    refuse_if(len(radices) > 16, TOO_WIDE)
+
+
+def refuse_big(radices):
+    refuse_if(any(prod(radices[:j]) >= 2**64 for j in range(len(radices) + 1)), TOO_BIG)
+
+
+def lend(room, values):
+    refuse_if(len(values) > room, SHAPE)
+    return values
+
+
+def exact_strides(radices):
+    return [prod(radices[:i]) for i in range(len(radices))]
+
+
+def shape_count(radices):
+    shape(radices)
+    refuse_big(radices)
+    return prod(radices)
+
+
+def strides(room, radices):
+    shape(radices)
+    refuse_big(radices[:-1])
+    return lend(room, exact_strides(radices))
+
+
+def linearize(radices, digits):
+    shape(radices)
+    refuse_if(len(radices) != len(digits), SHAPE)
+    refuse_if(any(d >= r for r, d in zip(radices, digits)), OUTSIDE)
+    refuse_big(radices)
+    return sum(s * d for s, d in zip(exact_strides(radices), digits))
+
+
+def delinearize(room, x, radices):
+    refuse_if(x >= shape_count(radices), NO_SUCH_RANK)
+    return lend(room, [x // s % r for s, r in zip(exact_strides(radices), radices)])
+
+
+def corner(axes, radices):
+    shape(radices)
+    refuse_if(any(a >= len(radices) for a in set_of(axes)), OUTSIDE)
+    return fitting(sum(exact_strides(radices)[a] for a in set_of(axes)))
+
+
+# ---- digit words
+
+def digit_count(radix, degree):
+    refuse_if(degree > 64, TOO_WIDE)
+    return fitting(radix**degree)
+
+
+def digits_of(radix, degree, rank):
+    refuse_if(rank >= digit_count(radix, degree), NO_SUCH_RANK)
+    return [rank // radix**p % radix for p in range(degree)]
+
+
+def digit_word(radix, symbols):
+    refuse_if(len(symbols) > 64, TOO_WIDE)
+    refuse_if(any(s >= radix for s in symbols), OUTSIDE)
+    digit_count(radix, len(symbols))
+    return [len(symbols), sum(s * radix**p for p, s in enumerate(symbols))]
+
+
+def digit_symbol(word, p):
+    symbols = digits_of(*word)
+    refuse_if(p >= len(symbols), OUTSIDE)
+    return symbols[p]
+
+
+def digit_stabilizer(word):
+    symbols = digits_of(*word)
+    return fitting(prod(factorial(symbols.count(s)) for s in set(symbols)))
+
+
+def digit_concat(x, y):
+    symbols = digits_of(*x) + digits_of(*y)
+    refuse_if(x[0] != y[0], SHAPE)
+    return digit_word(x[0], symbols)
+
+
+def digit_delete(word, p):
+    deleted, symbols = digit_symbol(word, p), digits_of(*word)
+    return [deleted, digit_word(word[0], symbols[:p] + symbols[p + 1:])[1]]
+
+
+# ---- exponents
+
+def width(n, k):
+    refuse_if(n > 64 or k > 64 or shifted_alphabet("allowed", n, k) > 64, TOO_WIDE)
+
+
+def exp_word(entries):
+    width(len(entries), sum(entries))
+    return [s for s, e in enumerate(entries) for _ in range(e)]
+
+
+def exp_from(room, n, word):
+    width(n, len(word))
+    refuse_if(any(s >= n for s in word), OUTSIDE)
+    return lend(room, [word.count(s) for s in range(n)])
+
+
+def exp_unrank(room, n, k, r):
+    width(n, k)
+    return exp_from(room, n, word_of("allowed", unrank_over("allowed", n, k, r)))
+
+
+def exp_add(room, x, y):
+    width(len(x), sum(x))
+    width(len(y), sum(y))
+    refuse_if(len(x) != len(y), SHAPE)
+    width(len(x), sum(x) + sum(y))
+    return lend(room, [a + b for a, b in zip(x, y)])
+
+
+# ---- the requests: a pattern of the words after the verb (F a family, n a number, * a list, / itself), and the answer
 
 REQUESTS = {
     "count": ("F n n", lambda room, f, n, k: count(f, n, k)),
@@ -201,6 +372,31 @@ REQUESTS = {
     "contains": ("n n", lambda room, x, s: "yes" if s in set_of(x) else "no"),
     "position": ("n n", lambda room, x, s: position(x, s)),
     "select": ("n n", lambda room, x, p: select(x, p)),
+    "permrank": ("*", lambda room, p: perm_rank(p)),
+    "permsign": ("*", lambda room, p: perm_sign(p)),
+    "perminverse": ("*", lambda room, p: perm_inverse(p)),
+    "permnext": ("*", lambda room, p: perm_next(p)),
+    "permunrank": ("n n", lambda room, n, r: perm_unrank(n, r)),
+    "permimage": ("n / *", lambda room, i, p: perm_image(p, i)),
+    "permcompose": ("* / *", lambda room, p, q: perm_compose(p, q)),
+    "shapecount": ("*", lambda room, r: shape_count(r)),
+    "strides": ("*", lambda room, r: strides(room, r)),
+    "linearize": ("* / *", lambda room, r, d: linearize(r, d)),
+    "delinearize": ("n / *", lambda room, x, r: delinearize(room, x, r)),
+    "corner": ("n / *", lambda room, axes, r: corner(axes, r)),
+    "digits": ("n / *", lambda room, radix, s: digit_word(radix, s)),
+    "digitsymbols": ("n n n", lambda room, *x: lend(room, digits_of(*x))),
+    "digitsymbol": ("n n n n", lambda room, *x: digit_symbol(x[:3], x[3])),
+    "digitcount": ("n n", lambda room, radix, degree: digit_count(radix, degree)),
+    "digitmultiplicity": ("n n n n", lambda room, *x: digits_of(*x[:3]).count(x[3])),
+    "digitstabilizer": ("n n n", lambda room, *x: digit_stabilizer(x)),
+    "digitconcat": ("n n n n n n", lambda room, *x: digit_concat(x[:3], x[3:])),
+    "digitdelete": ("n n n n", lambda room, *x: digit_delete(x[:3], x[3])),
+    "exprank": ("*", lambda room, e: rank_of("allowed", pack("allowed", exp_word(e)))),
+    "expword": ("*", lambda room, e: lend(room, exp_word(e))),
+    "expfrom": ("n / *", lambda room, n, w: exp_from(room, n, w)),
+    "expunrank": ("n n n", lambda room, n, k, r: exp_unrank(room, n, k, r)),
+    "expadd": ("* / *", lambda room, x, y: exp_add(room, x, y)),
 }
 
 
@@ -289,6 +485,17 @@ def test():
             assert word_of(family, bits) == word and rank_of(family, bits) == r and unrank_over(family, n, k, r) == bits
             if r + 1 < len(colex):
                 assert successor(family, bits) == pack(family, list(colex[r + 1]))
+            if family == "allowed":
+                entries = exp_unrank(n, n, k, r)
+                assert exp_word(entries) == word and exp_from(n, n, word[::-1]) == entries
+    for n in range(6):
+        for r, p in enumerate(map(list, sorted(itertools.permutations(range(n)), key=lambda p: p[::-1]))):
+            assert perm_rank(p) == r and perm_unrank(n, r) == p and perm_compose(perm_inverse(p), p) == list(range(n))
+    for radices in map(list, itertools.product(range(1, 5), repeat=3)):
+        for x, digits in enumerate(itertools.product(*map(range, radices[::-1]))):
+            assert linearize(radices, digits[::-1]) == x and delinearize(3, x, radices) == list(digits[::-1])
+            if radices == radices[:1] * 3:
+                assert digit_word(radices[0], digits[::-1]) == [3, x] and digits_of(radices[0], 3, x) == list(digits[::-1])
 
 
 def main():

@@ -1,9 +1,9 @@
--- `ask::answer_input` is safe and ends. The measure is how many blocks are left to count. Assumes nothing.
+-- `asking::answer_input` is safe and ends. The measure is how many blocks are left to count. Assumes nothing.
 use mathlib.Core.Path.{_≡_}
 use lib.ListN.{length}
 use borrow.Author.Needs.{needs}
-use Rattle.ask.proofs.answer_input.Statement.{statement}
-use Rattle.ask.proofs.answer_input.Tie as tie
+use Rattle.asking.proofs.answer_input.Statement.{statement}
+use Rattle.asking.proofs.answer_input.Tie as tie
 
 abbrev Inv-loop : tie.InvT-loop
 Inv-loop block₀ line₀ out₀ held₀ turns₀ block line out held turns = (length block ≡ length block₀) × (length line ≡ length line₀) × (length out ≡ length out₀)

@@ -2,8 +2,8 @@
 use Prim.Native.Nat.{_-_, _≤_}
 use lib.ListN.{length}
 use borrow.Author.Needs.{needs}
-use Rattle.ask.proofs.request.fits.Statement.{statement}
-use Rattle.ask.proofs.request.fits.Tie as tie
+use Rattle.asking.proofs.request.fits.Statement.{statement}
+use Rattle.asking.proofs.request.fits.Tie as tie
 
 abbrev Inv-loop : tie.InvT-loop
 Inv-loop kinds pattern i₀ j₀ i j = j ≤ length pattern

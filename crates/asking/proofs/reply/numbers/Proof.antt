@@ -3,8 +3,8 @@ use mathlib.Core.Path.{_≡_}
 use Prim.Native.Nat.{_-_, _≤_}
 use lib.ListN.{length}
 use borrow.Author.Needs.{needs}
-use Rattle.ask.proofs.reply.numbers.Statement.{statement}
-use Rattle.ask.proofs.reply.numbers.Tie as tie
+use Rattle.asking.proofs.reply.numbers.Statement.{statement}
+use Rattle.asking.proofs.reply.numbers.Tie as tie
 
 abbrev Inv-loop : tie.InvT-loop
 Inv-loop out₀ at list to₀ i₀ out to i = (i ≤ length list) × (length out ≡ length out₀)

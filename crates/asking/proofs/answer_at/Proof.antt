@@ -1,10 +1,10 @@
--- `ask::answer_at` is safe and ends: the words that are taken in stand within their places. Assumes nothing.
+-- `asking::answer_at` is safe and ends: the words that are taken in stand within their places. Assumes nothing.
 use mathlib.Core.Path.{subst}
 use lib.ListN.{length}
-use Rattle.ask.specs.Bounds.{WordsWithin}
+use Rattle.asking.specs.Bounds.{WordsWithin}
 use borrow.Author.Needs.{needs}
-use Rattle.ask.proofs.answer_at.Statement.{statement}
-use Rattle.ask.proofs.answer_at.Tie as tie
+use Rattle.asking.proofs.answer_at.Statement.{statement}
+use Rattle.asking.proofs.answer_at.Tie as tie
 
 add-words : tie.Need-add-words
 add-words c = search needs

@@ -1,10 +1,10 @@
--- `ask::answer_block` is safe and ends. The measure is what is left of the block. Assumes nothing.
+-- `asking::answer_block` is safe and ends. The measure is what is left of the block. Assumes nothing.
 use mathlib.Core.Path.{_≡_}
 use Prim.Native.Nat.{_-_, _≤_}
 use lib.ListN.{length}
 use borrow.Author.Needs.{needs}
-use Rattle.ask.proofs.answer_block.Statement.{statement}
-use Rattle.ask.proofs.answer_block.Tie as tie
+use Rattle.asking.proofs.answer_block.Statement.{statement}
+use Rattle.asking.proofs.answer_block.Tie as tie
 
 abbrev Inv-loop : tie.InvT-loop
 Inv-loop block line₀ before out₀ held₀ at₀ i₀ line out held at i = (i ≤ length block) × (length line ≡ length line₀) × (length out ≡ length out₀)

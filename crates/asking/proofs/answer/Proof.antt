@@ -1,11 +1,11 @@
--- `ask::answer` is safe and ends: the verb that `head` finds stands within the line. Assumes nothing.
+-- `asking::answer` is safe and ends: the verb that `head` finds stands within the line. Assumes nothing.
 use mathlib.Core.Path.{subst}
 use lib.ListN.{length}
 use denote.Ref.{now}
-use Rattle.ask.specs.Bounds.{VerbWithin}
+use Rattle.asking.specs.Bounds.{VerbWithin}
 use borrow.Author.Needs.{needs}
-use Rattle.ask.proofs.answer.Statement.{statement}
-use Rattle.ask.proofs.answer.Tie as tie
+use Rattle.asking.proofs.answer.Statement.{statement}
+use Rattle.asking.proofs.answer.Tie as tie
 
 head-requires : tie.Need-head-requires
 head-requires c κs = search needs

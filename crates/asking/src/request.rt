@@ -2,7 +2,7 @@
 // The kinds: n a number, f and a the families, / itself.
 ghost use Prim.Native.Nat.{_<_};
 ghost use lib.ListN.{length};
-ghost use Rattle.ask.specs.Bounds.{VerbWithin, WordsWithin};
+ghost use Rattle.asking.specs.Bounds.{VerbWithin, WordsWithin};
 use text::Number;
 use words::Family;
 

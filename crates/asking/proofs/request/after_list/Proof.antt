@@ -2,8 +2,8 @@
 use Prim.Native.Nat.{_-_}
 use lib.ListN.{length}
 use borrow.Author.Needs.{needs}
-use Rattle.ask.proofs.request.after_list.Statement.{statement}
-use Rattle.ask.proofs.request.after_list.Tie as tie
+use Rattle.asking.proofs.request.after_list.Statement.{statement}
+use Rattle.asking.proofs.request.after_list.Tie as tie
 
 abbrev Inv-loop : tie.InvT-loop
 Inv-loop kinds i to₀ left₀ to left = Unit {0}
