@@ -2,7 +2,7 @@
 --   symbols-at-step    the symbols at the positions w of s and xs: s if the lowest digit of w is 1, and those of xs at the other positions
 --   Selecting a ps left wanted chosen    the symbols chosen, and those still wanted of what is left, are the symbols at the positions ps
 --   selecting-starts, selecting-ends    before the first symbol, and after the last position
---   rest-within    without its lowest symbol, what is left is a smaller number
+--   rest-within, rest-shorter    without its lowest symbol, what is left is a smaller number, and has fewer symbols
 --   selecting-turn, selecting-skips    a symbol that is wanted, and one that is not
 use mathlib.Core.Path.{_≡_, refl, sym, ap, ap₂, subst, _∙_}
 use mathlib.Core.Bool.{false}
@@ -67,6 +67,9 @@ module _ {a ps left wanted chosen : ℕ} (p : Selecting a ps left wanted chosen)
 
     pub rest-within : rest ≤ left
     rest-within = omega (arith, lowest .2)
+
+    pub rest-shorter : length (setBits rest) < length (setBits left)
+    rest-shorter = omega (arith, ap length (lowest .1))
 
     -- the symbols wanted of what is left, and of the rest
     step : bitsOf (symbolsAt (setBits wanted) (setBits left)) ≡ wanted % 2 * 2 ^ lowest .0 + bitsOf (symbolsAt (setBits (wanted / 2)) (setBits rest))

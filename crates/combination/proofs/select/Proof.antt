@@ -1,11 +1,13 @@
--- `combination::select` meets its contract, by the laws of `Selecting`. The measure is the number of the positions that are still wanted. Assumes nothing.
+-- `combination::select` meets its contract, by the laws of `Selecting`. The measure is how many symbols are left: at most 64 turns.
+-- Assumes nothing.
 use mathlib.Core.Path.{sym, ap, subst, _∙_}
 use mathlib.Core.Logic.{⊎-elim}
 use native.Mathlib.Omega.{arith}
+use lib.ListN.{length}
 use borrow.Author.Needs.{needs}
 use Rattle.words.specs.Bits.{setBits}
 use Rattle.bits.specs.Member.{reaches}
-use Rattle.combination.proofs.Selecting.{Selecting, selecting-starts, rest-within, selecting-turn, selecting-skips, selecting-ends}
+use Rattle.combination.proofs.Selecting.{Selecting, selecting-starts, rest-within, rest-shorter, selecting-turn, selecting-skips, selecting-ends}
 use Rattle.combination.proofs.select.Statement.{statement}
 use Rattle.combination.proofs.select.Tie as tie
 
@@ -13,7 +15,7 @@ abbrev Inv-loop : tie.InvT-loop
 Inv-loop set positions left₀ wanted₀ chosen₀ left wanted chosen = Selecting set positions left wanted chosen
 
 abbrev μ-loop : tie.MeasureT-loop
-μ-loop set positions left₀ wanted₀ chosen₀ left wanted chosen = wanted
+μ-loop set positions left₀ wanted₀ chosen₀ left wanted chosen = length (setBits left)
 
 count-ones-requires : tie.Need-count-ones-requires Inv-loop μ-loop
 count-ones-requires c κs = search needs
@@ -39,7 +41,7 @@ add-chosen : tie.Need-add-chosen Inv-loop μ-loop
 add-chosen c = omega (arith, c .before .before .before .loop .inv .room, c .before .before .before .before .before .before .before .fits)
 
 loop-less : tie.Need-loop-less Inv-loop μ-loop
-loop-less c = omega arith
+loop-less c = rest-shorter (c .before .before .before .loop .inv) (c .before .without-lowest .result) (omega arith) (c .before .without-lowest .ensures)
 
 loop-again : tie.Need-loop-again Inv-loop μ-loop
 loop-again c = ⊎-elim
