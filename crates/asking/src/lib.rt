@@ -2,65 +2,49 @@
 // library answers it, and the answer is written. The programs over it are thin.
 ghost use Prim.Native.Nat.{_≤_};
 ghost use lib.ListN.{length};
+use replies::Reply;
+use requests::Begun;
+use requests::Rest;
 
-mod reply;
-mod request;
-mod sets;
-mod signed;
-mod terms;
-
-use reply::Reply;
-use request::Begun;
-use request::Rest;
-
-// The answer to a request, by the group that knows its verb.
-fn reply_to(verb: &[u8], kinds: &[u8], values: &[u64], lent: &mut [u64]) -> Reply {
-    let r = terms::over(verb, kinds, values, lent);
+// The answer by the group that knows the verb, of those whose calls write to a lent output; bad if none does.
+fn reply_lent(verb: &[u8], kinds: &[u8], values: &[u64], lent: &mut [u64]) -> Reply {
+    let r = term_verbs::reply(verb, kinds, values, lent);
     let Reply::Bad = r else {
         return r;
     };
-    let r = terms::of_word(verb, kinds, values);
-    let Reply::Bad = r else {
-        return r;
-    };
-    let r = terms::of_index(verb, kinds, values, lent);
-    let Reply::Bad = r else {
-        return r;
-    };
-    let r = signed::products(verb, kinds, values);
-    let Reply::Bad = r else {
-        return r;
-    };
-    let r = signed::of_index(verb, kinds, values);
-    let Reply::Bad = r else {
-        return r;
-    };
-    sets::of_set(verb, kinds, values)
+    shape_verbs::reply(verb, kinds, values, lent)
 }
 
+// How many of n places are lent: as many as are asked for, or all of them.
+fn lent_of(room: u64, n: usize) -> usize
+    ensures { λ r. ⌜ r ≤ n ⌝ }
+{
+    if room < n as u64 {
+        return room as usize;
+    }
+    n
+}
+
+// The answer to a request, given the words after its verb. Permutations are given in any of the places; other calls are lent the first.
 fn answer_verb(
     verb: &[u8],
     kinds: &[u8],
     values: &[u64],
-    lent: &mut [u64],
+    room: u64,
+    places: &mut [u64],
     out: &mut [u8],
     at: usize,
 ) -> usize {
-    let r = reply_to(verb, kinds, values, lent);
-    reply::put(out, at, r, lent)
+    let r = permutation_verbs::reply(verb, kinds, values, places);
+    let Reply::Bad = r else {
+        return replies::put(out, at, r, places);
+    };
+    let lent = lent_of(room, places.len());
+    let r = reply_lent(verb, kinds, values, &mut places[0..lent]);
+    replies::put(out, at, r, places)
 }
 
-// How many places of the output are lent: as many as are asked for, of the 80 that there are.
-fn lent_of(room: u64) -> usize
-    ensures { λ r. ⌜ r ≤ 80 ⌝ }
-{
-    if room < 80 {
-        return room as usize;
-    }
-    80
-}
-
-// The answer to a request whose n words after the verb are taken in.
+// The same of a request whose n words after the verb are taken in. No call writes more than 64 places.
 fn answer_words(
     verb: &[u8],
     n: usize,
@@ -73,12 +57,12 @@ fn answer_words(
     requires { ⌜ (n ≤ length (now kinds)) × (n ≤ length (now values)) ⌝ }
 {
     let mut places = [0u64; 80];
-    let lent = lent_of(room);
     answer_verb(
         verb,
         &kinds[0..n],
         &values[0..n],
-        &mut places[0..lent],
+        room,
+        &mut places,
         out,
         at,
     )
@@ -91,16 +75,16 @@ fn answer_at(line: &[u8], room: u64, from: usize, end: usize, out: &mut [u8], at
 {
     let mut kinds = [0u8; 161];
     let mut values = [0u64; 161];
-    match request::words(line, end + 1, &mut kinds, &mut values) {
+    match requests::words(line, end + 1, &mut kinds, &mut values) {
         Rest::Words(n) => answer_words(&line[from..end], n, &kinds, &values, room, out, at),
-        Rest::Bad => reply::bad(out, at),
+        Rest::Bad => replies::bad(out, at),
     }
 }
 
 fn answer(line: &[u8], out: &mut [u8], at: usize) -> usize {
-    match request::head(line) {
+    match requests::head(line) {
         Begun::Verb(room, from, end) => answer_at(line, room, from, end, out, at),
-        Begun::Bad => reply::bad(out, at),
+        Begun::Bad => replies::bad(out, at),
     }
 }
 
@@ -108,7 +92,7 @@ fn answer(line: &[u8], out: &mut [u8], at: usize) -> usize {
 fn answer_held(line: &[u8], held: usize, out: &mut [u8], at: usize) -> usize {
     let at = streams::with_room(out, at, 4096);
     if held >= line.len() {
-        return reply::bad(out, at);
+        return replies::bad(out, at);
     }
     answer(&line[0..held], out, at)
 }

@@ -2,7 +2,7 @@
 use mathlib.Core.Path.{subst}
 use lib.ListN.{length}
 use denote.Ref.{now}
-use Rattle.asking.specs.Bounds.{VerbWithin}
+use Rattle.requests.specs.Bounds.{VerbWithin}
 use borrow.Author.Needs.{needs}
 use Rattle.asking.proofs.answer.Statement.{statement}
 use Rattle.asking.proofs.answer.Tie as tie

@@ -1,7 +1,7 @@
 -- `asking::answer_at` is safe and ends: the words that are taken in stand within their places. Assumes nothing.
 use mathlib.Core.Path.{subst}
 use lib.ListN.{length}
-use Rattle.asking.specs.Bounds.{WordsWithin}
+use Rattle.requests.specs.Bounds.{WordsWithin}
 use borrow.Author.Needs.{needs}
 use Rattle.asking.proofs.answer_at.Statement.{statement}
 use Rattle.asking.proofs.answer_at.Tie as tie

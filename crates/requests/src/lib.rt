@@ -1,20 +1,20 @@
-// A request, taken apart once: the words after its verb, each with a byte for its kind and its value.
+// A request (docs/RULES.md, section 13), taken apart once: the words after its verb, each with a byte for its kind and its value.
 // The kinds: n a number, f and a the families, / itself.
 ghost use Prim.Native.Nat.{_<_};
 ghost use lib.ListN.{length};
-ghost use Rattle.asking.specs.Bounds.{VerbWithin, WordsWithin};
+ghost use Rattle.requests.specs.Bounds.{VerbWithin, WordsWithin};
 use text::Number;
 use words::Family;
 
 // Where the verb of a line stands, and how many places it is lent before that.
-pub(crate) enum Begun {
+pub enum Begun {
     // the places lent, and the verb's first place and the place after it
     Verb(u64, usize, usize),
     Bad,
 }
 
 // What stands after the verb.
-pub(crate) enum Rest {
+pub enum Rest {
     Words(usize),
     Bad,
 }
@@ -38,7 +38,7 @@ fn after_room(line: &[u8], from: usize) -> Begun
 }
 
 // The verb of a line, after `room R` where the line begins with that.
-pub(crate) fn head(line: &[u8]) -> Begun
+pub fn head(line: &[u8]) -> Begun
     ensures { λ r. ⌜ VerbWithin (length (now (line .entry))) r ⌝ }
 {
     let end = text::find(line, 0, b' ');
@@ -80,7 +80,7 @@ fn take(word: &[u8], i: usize, kinds: &mut [u8], values: &mut [u64]) -> bool
 }
 
 // The words from place `from` on, one space between two of them, if there are places for them all.
-pub(crate) fn words(line: &[u8], from: usize, kinds: &mut [u8], values: &mut [u64]) -> Rest
+pub fn words(line: &[u8], from: usize, kinds: &mut [u8], values: &mut [u64]) -> Rest
     ensures { λ r. ⌜ WordsWithin (length (now (kinds .exit))) (length (now (values .exit))) r ⌝ }
 {
     let mut at = from;
@@ -155,7 +155,7 @@ fn fits(kinds: &[u8], pattern: &[u8]) -> bool {
 }
 
 // Whether a request is the one that an entry says: its verb, a space, and the pattern of the words after it.
-pub(crate) fn asks(verb: &[u8], kinds: &[u8], entry: &[u8]) -> bool {
+pub fn asks(verb: &[u8], kinds: &[u8], entry: &[u8]) -> bool {
     let end = text::find(entry, 0, b' ');
     if !check::same(verb, &entry[0..end]) {
         return false;
@@ -167,7 +167,7 @@ pub(crate) fn asks(verb: &[u8], kinds: &[u8], entry: &[u8]) -> bool {
 }
 
 // The family at place i.
-pub(crate) fn family(kinds: &[u8], i: usize) -> Family {
+pub fn family(kinds: &[u8], i: usize) -> Family {
     if i < kinds.len() {
         if kinds[i] == b'a' {
             return Family::Allowed;
@@ -177,7 +177,7 @@ pub(crate) fn family(kinds: &[u8], i: usize) -> Family {
 }
 
 // The number at place i.
-pub(crate) fn number(values: &[u64], i: usize) -> u64 {
+pub fn number(values: &[u64], i: usize) -> u64 {
     if i < values.len() {
         return values[i];
     }
@@ -185,9 +185,30 @@ pub(crate) fn number(values: &[u64], i: usize) -> u64 {
 }
 
 // The list that begins at place i and runs to the end.
-pub(crate) fn list(values: &[u64], i: usize) -> &[u64] {
+pub fn list(values: &[u64], i: usize) -> &[u64] {
     if i <= values.len() {
         return &values[i..];
+    }
+    &values[0..0]
+}
+
+// The place of the `/` that separates two lists, or the number of words if there is none.
+pub fn slash(kinds: &[u8]) -> usize {
+    text::find(kinds, 0, b'/')
+}
+
+// The list that ends at the `/`, whose place is given.
+pub fn list_before(values: &[u64], slash: usize) -> &[u64] {
+    if slash <= values.len() {
+        return &values[0..slash];
+    }
+    &values[0..0]
+}
+
+// The list that begins after the `/`, whose place is given.
+pub fn list_after(values: &[u64], slash: usize) -> &[u64] {
+    if slash < values.len() {
+        return &values[slash + 1..];
     }
     &values[0..0]
 }

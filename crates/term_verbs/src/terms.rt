@@ -1,6 +1,4 @@
 // The requests on terms (document 01, "Terms and their order").
-use crate::reply::Reply;
-use crate::request;
 use answers::Answer;
 use answers::Index;
 use answers::Indexed;
@@ -8,6 +6,7 @@ use answers::Refusal;
 use monotone::Started;
 use monotone::Stepped;
 use monotone::Walk;
+use replies::Reply;
 use words::Family;
 
 // The index that the s-th step of a walk gives, or the first refusal on the way.
@@ -67,23 +66,23 @@ fn walk(f: Family, n: u64, k: u64, s: u64) -> Reply {
 
 // The requests that name an alphabet, or every one.
 pub(crate) fn over(verb: &[u8], kinds: &[u8], values: &[u64], lent: &mut [u64]) -> Reply {
-    let f = request::family(kinds, 0);
-    let a = request::number(values, 1);
-    let b = request::number(values, 2);
-    let c = request::number(values, 3);
-    if request::asks(verb, kinds, b"count Fnn") {
+    let f = requests::family(kinds, 0);
+    let a = requests::number(values, 1);
+    let b = requests::number(values, 2);
+    let c = requests::number(values, 3);
+    if requests::asks(verb, kinds, b"count Fnn") {
         return Reply::Number(monotone::count(f, a, b));
     }
-    if request::asks(verb, kinds, b"walk Fnnn") {
+    if requests::asks(verb, kinds, b"walk Fnnn") {
         return walk(f, a, b, c);
     }
-    if request::asks(verb, kinds, b"unrank Fnnn") {
+    if requests::asks(verb, kinds, b"unrank Fnnn") {
         return Reply::Places(monotone::unrank(f, a, b, c, lent));
     }
-    if request::asks(verb, kinds, b"unrankover Fnnn") {
+    if requests::asks(verb, kinds, b"unrankover Fnnn") {
         return Reply::Index(monotone::unrank_over(f, a, b, c));
     }
-    if request::asks(verb, kinds, b"unrankany Fnn") {
+    if requests::asks(verb, kinds, b"unrankany Fnn") {
         return Reply::Index(monotone::unrank_any(f, a, b));
     }
     Reply::Bad
@@ -91,12 +90,12 @@ pub(crate) fn over(verb: &[u8], kinds: &[u8], values: &[u64], lent: &mut [u64]) 
 
 // The requests on a word.
 pub(crate) fn of_word(verb: &[u8], kinds: &[u8], values: &[u64]) -> Reply {
-    let f = request::family(kinds, 0);
-    let w = request::list(values, 1);
-    if request::asks(verb, kinds, b"rank F*") {
+    let f = requests::family(kinds, 0);
+    let w = requests::list(values, 1);
+    if requests::asks(verb, kinds, b"rank F*") {
         return Reply::Number(monotone::rank(f, w));
     }
-    if request::asks(verb, kinds, b"pack F*") {
+    if requests::asks(verb, kinds, b"pack F*") {
         return Reply::Index(monotone::pack(f, w));
     }
     Reply::Bad
@@ -105,23 +104,23 @@ pub(crate) fn of_word(verb: &[u8], kinds: &[u8], values: &[u64]) -> Reply {
 // The requests on an index.
 pub(crate) fn of_index(verb: &[u8], kinds: &[u8], values: &[u64], lent: &mut [u64]) -> Reply {
     let x = Index {
-        family: request::family(kinds, 0),
-        bits: request::number(values, 1),
+        family: requests::family(kinds, 0),
+        bits: requests::number(values, 1),
     };
-    let p = request::number(values, 2);
-    if request::asks(verb, kinds, b"rankof Fn") {
+    let p = requests::number(values, 2);
+    if requests::asks(verb, kinds, b"rankof Fn") {
         return Reply::Number(Answer::Is(monotone::rank_of(x)));
     }
-    if request::asks(verb, kinds, b"unpack Fn") {
+    if requests::asks(verb, kinds, b"unpack Fn") {
         return Reply::Places(monotone::unpack(x, lent));
     }
-    if request::asks(verb, kinds, b"next Fn") {
+    if requests::asks(verb, kinds, b"next Fn") {
         return Reply::Index(monotone::successor(x));
     }
-    if request::asks(verb, kinds, b"symbol Fnn") {
+    if requests::asks(verb, kinds, b"symbol Fnn") {
         return Reply::Number(monotone::symbol(x, p));
     }
-    if request::asks(verb, kinds, b"degree Fn") {
+    if requests::asks(verb, kinds, b"degree Fn") {
         return Reply::Number(Answer::Is(monotone::degree(x)));
     }
     Reply::Bad

@@ -1,9 +1,9 @@
--- `request::fits` is safe and ends. The measure is what is left of the pattern. Assumes nothing.
+-- `requests::fits` is safe and ends. The measure is what is left of the pattern. Assumes nothing.
 use Prim.Native.Nat.{_-_, _≤_}
 use lib.ListN.{length}
 use borrow.Author.Needs.{needs}
-use Rattle.asking.proofs.request.fits.Statement.{statement}
-use Rattle.asking.proofs.request.fits.Tie as tie
+use Rattle.requests.proofs.fits.Statement.{statement}
+use Rattle.requests.proofs.fits.Tie as tie
 
 abbrev Inv-loop : tie.InvT-loop
 Inv-loop kinds pattern i₀ j₀ i j = j ≤ length pattern

@@ -1,40 +1,47 @@
-// The answer to a request, put into the buffer of the output from a place on. Each function answers the place after it.
+// The answer to a request (docs/RULES.md, section 13), put into the buffer of the output from a place on. Each function answers the place
+// after it.
 use answers::Answer;
 use answers::Indexed;
 use answers::Refusal;
 use answers::Sign;
 use answers::Signed;
 use deletion::Deleted;
+use digits::Deleted as DigitDeleted;
+use digits::Worded;
+use permutation::Signs;
 
 // What a request is answered with.
-pub(crate) enum Reply {
+pub enum Reply {
     // it is no request
     Bad,
     Number(Answer),
     Index(Indexed),
+    Sign(Signs),
     Signed(Signed),
     Deleted(Deleted),
+    DigitWord(Worded),
+    DigitDeleted(DigitDeleted),
     Truth(bool),
     // how many of the lent places a call has written
     Places(Answer),
 }
 
-pub(crate) fn bad(out: &mut [u8], at: usize) -> usize {
+pub fn bad(out: &mut [u8], at: usize) -> usize {
     text::put(out, at, b"bad line\n")
 }
 
-pub(crate) fn refusal(out: &mut [u8], at: usize, e: Refusal) -> usize {
+fn refusal(out: &mut [u8], at: usize, e: Refusal) -> usize {
     let at = text::put(out, at, b"refused ");
     number(out, at, answers::number(e))
 }
 
-pub(crate) fn number(out: &mut [u8], at: usize, n: u64) -> usize {
+fn number(out: &mut [u8], at: usize, n: u64) -> usize {
     let at = text::put_number(out, at, n);
     text::put_byte(out, at, b'\n')
 }
 
 // A number, or a refusal.
-pub(crate) fn answer(out: &mut [u8], at: usize, a: Answer) -> usize {
+fn answer(out: &mut [u8], at: usize, a: Answer) -> usize {
     match a {
         Answer::Is(n) => number(out, at, n),
         Answer::Refused(e) => refusal(out, at, e),
@@ -42,7 +49,7 @@ pub(crate) fn answer(out: &mut [u8], at: usize, a: Answer) -> usize {
 }
 
 // The bits of an index, or a refusal.
-pub(crate) fn index(out: &mut [u8], at: usize, a: Indexed) -> usize {
+fn index(out: &mut [u8], at: usize, a: Indexed) -> usize {
     match a {
         Indexed::At(x) => number(out, at, x.bits),
         Indexed::Refused(e) => refusal(out, at, e),
@@ -54,6 +61,17 @@ fn sign(out: &mut [u8], at: usize, s: Sign) -> usize {
     match s {
         Sign::Plus => text::put_byte(out, at, b'+'),
         Sign::Minus => text::put_byte(out, at, b'-'),
+    }
+}
+
+// A sign alone, or a refusal.
+fn signs(out: &mut [u8], at: usize, a: Signs) -> usize {
+    match a {
+        Signs::Is(s) => {
+            let at = sign(out, at, s);
+            text::put_byte(out, at, b'\n')
+        }
+        Signs::Refused(e) => refusal(out, at, e),
     }
 }
 
@@ -75,11 +93,32 @@ fn deleted(out: &mut [u8], at: usize, a: Deleted) -> usize {
         Deleted::At(s, symbol, x) => {
             let at = sign(out, at, s);
             let at = text::put_byte(out, at, b' ');
-            let at = text::put_number(out, at, symbol);
-            let at = text::put_byte(out, at, b' ');
-            number(out, at, x.bits)
+            pair(out, at, symbol, x.bits)
         }
         Deleted::Refused(e) => refusal(out, at, e),
+    }
+}
+
+// Two numbers.
+fn pair(out: &mut [u8], at: usize, m: u64, n: u64) -> usize {
+    let at = text::put_number(out, at, m);
+    let at = text::put_byte(out, at, b' ');
+    number(out, at, n)
+}
+
+// The degree and the rank of a digit word, or a refusal.
+fn digit_word(out: &mut [u8], at: usize, a: Worded) -> usize {
+    match a {
+        Worded::Is(x) => pair(out, at, x.degree, x.rank),
+        Worded::Refused(e) => refusal(out, at, e),
+    }
+}
+
+// The deleted symbol and the rank of the digit word that is left, or a refusal.
+fn digit_deleted(out: &mut [u8], at: usize, a: DigitDeleted) -> usize {
+    match a {
+        DigitDeleted::At(symbol, x) => pair(out, at, symbol, x.rank),
+        DigitDeleted::Refused(e) => refusal(out, at, e),
     }
 }
 
@@ -112,7 +151,7 @@ fn numbers(out: &mut [u8], at: usize, list: &[u64]) -> usize {
 }
 
 // The places that a call has written of those that it was lent, or its refusal.
-pub(crate) fn places(out: &mut [u8], at: usize, a: Answer, lent: &[u64]) -> usize {
+fn places(out: &mut [u8], at: usize, a: Answer, lent: &[u64]) -> usize {
     match a {
         Answer::Is(n) => {
             let k = n as usize;
@@ -125,14 +164,17 @@ pub(crate) fn places(out: &mut [u8], at: usize, a: Answer, lent: &[u64]) -> usiz
     }
 }
 
-// Puts a reply.
-pub(crate) fn put(out: &mut [u8], at: usize, r: Reply, lent: &[u64]) -> usize {
+// Puts a reply. The places are those that calls write to.
+pub fn put(out: &mut [u8], at: usize, r: Reply, lent: &[u64]) -> usize {
     match r {
         Reply::Bad => bad(out, at),
         Reply::Number(a) => answer(out, at, a),
         Reply::Index(a) => index(out, at, a),
+        Reply::Sign(a) => signs(out, at, a),
         Reply::Signed(a) => signed(out, at, a),
         Reply::Deleted(a) => deleted(out, at, a),
+        Reply::DigitWord(a) => digit_word(out, at, a),
+        Reply::DigitDeleted(a) => digit_deleted(out, at, a),
         Reply::Truth(a) => truth(out, at, a),
         Reply::Places(a) => places(out, at, a, lent),
     }

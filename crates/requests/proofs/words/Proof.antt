@@ -1,10 +1,10 @@
--- `request::words` meets its contract and ends. The measure is what is left of the line. Assumes nothing.
+-- `requests::words` meets its contract and ends. The measure is what is left of the line. Assumes nothing.
 use mathlib.Core.Path.{_≡_}
 use Prim.Native.Nat.{_+_, _-_, _≤_}
 use lib.ListN.{length}
 use borrow.Author.Needs.{needs}
-use Rattle.asking.proofs.request.words.Statement.{statement}
-use Rattle.asking.proofs.request.words.Tie as tie
+use Rattle.requests.proofs.words.Statement.{statement}
+use Rattle.requests.proofs.words.Tie as tie
 
 abbrev Inv-loop : tie.InvT-loop
 Inv-loop line from kinds₀ values₀ at₀ n₀ kinds values at n = (n ≤ length kinds) × (n ≤ length values) × (length kinds ≡ length kinds₀) × (length values ≡ length values₀)

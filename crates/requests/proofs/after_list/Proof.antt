@@ -1,9 +1,9 @@
--- `request::after_list` is safe and ends. The measure is what is left of the words. Assumes nothing.
+-- `requests::after_list` is safe and ends. The measure is what is left of the words. Assumes nothing.
 use Prim.Native.Nat.{_-_}
 use lib.ListN.{length}
 use borrow.Author.Needs.{needs}
-use Rattle.asking.proofs.request.after_list.Statement.{statement}
-use Rattle.asking.proofs.request.after_list.Tie as tie
+use Rattle.requests.proofs.after_list.Statement.{statement}
+use Rattle.requests.proofs.after_list.Tie as tie
 
 abbrev Inv-loop : tie.InvT-loop
 Inv-loop kinds i to₀ left₀ to left = Unit {0}

@@ -2,10 +2,10 @@
 --   VerbWithin l b    a verb that was found stands within the l bytes of the line
 --   WordsWithin k v r    the words that were taken in are no more than the k places for kinds, nor the v places for values
 use Prim.Native.Nat.{ℕ, _≤_}
-use Rattle.asking.specs.declared.request.Begun.{Begun}
-use Rattle.asking.specs.declared.request.Begun.the-variants as begun
-use Rattle.asking.specs.declared.request.Rest.{Rest}
-use Rattle.asking.specs.declared.request.Rest.the-variants as rest
+use Rattle.requests.specs.declared.Begun.{Begun}
+use Rattle.requests.specs.declared.Begun.the-variants as begun
+use Rattle.requests.specs.declared.Rest.{Rest}
+use Rattle.requests.specs.declared.Rest.the-variants as rest
 
 abbrev pub VerbWithin : ℕ → Begun → Type 0
 VerbWithin l (begun.Verb room from end) = (from ≤ end) × (end ≤ l)

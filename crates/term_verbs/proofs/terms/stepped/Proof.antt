@@ -1,8 +1,8 @@
 -- `terms::stepped` is safe and ends. The measure is how many steps are left. Assumes nothing.
 use Prim.Native.Nat.{_-_, _^_, _<_}
 use borrow.Author.Needs.{needs}
-use Rattle.asking.proofs.terms.stepped.Statement.{statement}
-use Rattle.asking.proofs.terms.stepped.Tie as tie
+use Rattle.term_verbs.proofs.terms.stepped.Statement.{statement}
+use Rattle.term_verbs.proofs.terms.stepped.Tie as tie
 
 abbrev Inv-loop : tie.InvT-loop
 Inv-loop s w₀ i₀ w i = i < 2 ^ 64

@@ -1,23 +1,22 @@
 // The requests on terms whose answers carry a sign, and the stabilizer (document 01, "Terms and their order").
-use crate::reply::Reply;
-use crate::request;
 use answers::Index;
+use replies::Reply;
 
 // The requests on a word in any order, and on two indices.
 pub(crate) fn products(verb: &[u8], kinds: &[u8], values: &[u64]) -> Reply {
-    let f = request::family(kinds, 0);
-    if request::asks(verb, kinds, b"canonical F*") {
-        return Reply::Signed(algebra::canonicalise(f, request::list(values, 1)));
+    let f = requests::family(kinds, 0);
+    if requests::asks(verb, kinds, b"canonical F*") {
+        return Reply::Signed(algebra::canonicalise(f, requests::list(values, 1)));
     }
     let x = Index {
         family: f,
-        bits: request::number(values, 1),
+        bits: requests::number(values, 1),
     };
     let y = Index {
-        family: request::family(kinds, 2),
-        bits: request::number(values, 3),
+        family: requests::family(kinds, 2),
+        bits: requests::number(values, 3),
     };
-    if request::asks(verb, kinds, b"merge FnFn") {
+    if requests::asks(verb, kinds, b"merge FnFn") {
         return Reply::Signed(algebra::merge(x, y));
     }
     Reply::Bad
@@ -26,17 +25,17 @@ pub(crate) fn products(verb: &[u8], kinds: &[u8], values: &[u64]) -> Reply {
 // The requests on one index.
 pub(crate) fn of_index(verb: &[u8], kinds: &[u8], values: &[u64]) -> Reply {
     let x = Index {
-        family: request::family(kinds, 0),
-        bits: request::number(values, 1),
+        family: requests::family(kinds, 0),
+        bits: requests::number(values, 1),
     };
-    let p = request::number(values, 2);
-    if request::asks(verb, kinds, b"delete Fnn") {
+    let p = requests::number(values, 2);
+    if requests::asks(verb, kinds, b"delete Fnn") {
         return Reply::Deleted(deletion::delete(x, p));
     }
-    if request::asks(verb, kinds, b"complement Fnn") {
+    if requests::asks(verb, kinds, b"complement Fnn") {
         return Reply::Signed(deletion::complement(x, p));
     }
-    if request::asks(verb, kinds, b"stabilizer Fn") {
+    if requests::asks(verb, kinds, b"stabilizer Fn") {
         return Reply::Number(deletion::stabilizer(x));
     }
     Reply::Bad

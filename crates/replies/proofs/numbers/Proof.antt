@@ -1,10 +1,10 @@
--- `reply::numbers` is safe and ends. The measure is what is left of the list. Assumes nothing.
+-- `replies::numbers` is safe and ends. The measure is what is left of the list. Assumes nothing.
 use mathlib.Core.Path.{_≡_}
 use Prim.Native.Nat.{_-_, _≤_}
 use lib.ListN.{length}
 use borrow.Author.Needs.{needs}
-use Rattle.asking.proofs.reply.numbers.Statement.{statement}
-use Rattle.asking.proofs.reply.numbers.Tie as tie
+use Rattle.replies.proofs.numbers.Statement.{statement}
+use Rattle.replies.proofs.numbers.Tie as tie
 
 abbrev Inv-loop : tie.InvT-loop
 Inv-loop out₀ at list to₀ i₀ out to i = (i ≤ length list) × (length out ≡ length out₀)
