@@ -2,33 +2,28 @@
 --   fits-small, fits-big    what `fits` says of a number below 2^64, and of the others
 --   fits-given, fits-refused    and the other way round
 --   stays-big    a number no smaller than one that is 2^64 or more is so too
---   test-below    the test of a list says Below
---   axes-below, axes-past    the axes of a set are below n exactly if nothing of the number is left above its n lowest digits
 --   Summing rs axes sum st left i    sum has the strides of the chosen axes below i, st is the stride at i, and left has the axes from i up
 --   summing-starts, summing-turn, summing-ends    before the first axis, one axis more, and after the last
 --   axis-chosen, axis-left-out    what an axis adds to the sum
 use mathlib.Core.Path.{_≡_, refl, sym, ap, subst, _∙_}
 use mathlib.Core.Bool.{Bool, true, false}
-use mathlib.Core.List.{List, [], _∷_}
+use mathlib.Core.List.{List}
 use Prim.Native.Nat.{ℕ, zero, suc, _+_, _*_, _/_, _%_, _^_, _<_, _≤_, zero-le}
-use native.Mathlib.Nat.{div-one, div-div-eq-div-mul, div-eq-of-lt, div-lt-iff-lt-mul, add-zero, one-mul, zero-mul, pow-suc}
+use native.Mathlib.Nat.{div-one, div-div-eq-div-mul, add-zero, one-mul, zero-mul, pow-suc}
 use native.Mathlib.Numerals.{add-one}
 use native.Mathlib.Omega.{arith}
-use borrow.Author.Tests.{ltb-true, leb-true, lt-ltb, le-leb, lt-leb}
-use lib.Dec.{leb, ltb}
-use lib.Pow.{pow-pos}
+use borrow.Author.Tests.{leb-true, le-leb, lt-leb}
+use lib.Dec.{leb}
 use lib.ListN.{length, getD, drop}
 use lib.Seq.{drop-cons}
 use Rattle.words.specs.Pick.{pick}
-use Rattle.words.specs.Word.{Below}
 use Rattle.words.specs.Bits.{setBits}
-use Rattle.words.proofs.Bits.{bits-fit, below-of-bits, bits-of-set, set-bits-monotone}
 use Rattle.positional.specs.Positional.{product, stride, cornerOf}
 use Rattle.positional.proofs.Strides.{stride-next}
 use Rattle.positional.proofs.Corner.{corner-turn, corner-none}
 use Rattle.answers.specs.Says.{Says, gives, refuses}
 use Rattle.answers.proofs.Says.{gives-same, gives-no-refusal}
-use Rattle.cartesian.specs.Checks.{fits, allBelow}
+use Rattle.cartesian.specs.Checks.{fits}
 
 -- ---- numbers that may be 2^64 or more
 
@@ -54,33 +49,6 @@ fits-refused n d e = go (leb (2 ^ 64) n) refl e
 
 pub stays-big : (n m d : ℕ) → refuses d ≡ fits n → n ≤ m → fits n ≡ fits m
 stays-big n m d e h = fits-big n (fits-refused n d e) ∙ sym (fits-big m (omega (arith, h, fits-refused n d e)))
-
--- ---- the axes of a set
-
-below-test : (n : ℕ) (w : List ℕ) → Below n w → allBelow n w ≡ true
-below-test n [] b = refl
-below-test n (x ∷ xs) b = ap (λ (t : Bool). pick t (allBelow n xs) false) (lt-ltb x n (b .0)) ∙ below-test n xs (b .1)
-
-pub test-below : (n : ℕ) (w : List ℕ) → allBelow n w ≡ true → Below n w
-test-below n [] e = tt
-test-below n (x ∷ xs) e = go (ltb x n) refl e (test-below n xs)
-  where
-    go : (t : Bool) → ltb x n ≡ t → pick t (allBelow n xs) false ≡ true → (allBelow n xs ≡ true → Below n xs) → Below n (x ∷ xs)
-    go true b e more = (ltb-true x n b, more e)
-    go false b e more = absurd (let z : _≡_ {A = ℕ} 0 1 = cc in omega arith)
-
-quotient-none : (n a : ℕ) → a / 2 ^ n ≡ 0 → a < 2 ^ n
-quotient-none n a e = omega (arith, div-lt-iff-lt-mul {k = 2 ^ n} {x = a} {y = 1} (pow-pos n) .0 (omega arith))
-
-pub axes-below : (n a : ℕ) → a / 2 ^ n ≡ 0 → allBelow n (setBits a) ≡ true
-axes-below n a e = below-test n (setBits a) (below-of-bits n (setBits a) (omega (arith, bits-of-set a, quotient-none n a e)))
-
-pub axes-past : (n a : ℕ) → (a / 2 ^ n ≡ 0 → ⊥) → allBelow n (setBits a) ≡ false
-axes-past n a h = go (allBelow n (setBits a)) refl
-  where
-    go : (t : Bool) → allBelow n (setBits a) ≡ t → allBelow n (setBits a) ≡ false
-    go true e = absurd (h (div-eq-of-lt (omega (arith, bits-of-set a, bits-fit n (setBits a) (set-bits-monotone a) (test-below n (setBits a) e)))))
-    go false e = e
 
 -- ---- the loop over the axes
 

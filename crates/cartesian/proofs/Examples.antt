@@ -4,6 +4,7 @@ use mathlib.Core.List.{List, [], _∷_}
 use Prim.Native.Nat.{ℕ, _^_}
 use lib.ListN.{replicate}
 use Rattle.words.specs.Bits.{onesFrom}
+use Rattle.bits.specs.Member.{reaches}
 use Rattle.positional.specs.Positional.{product, digitsOf, cornerOf}
 use Rattle.answers.specs.Says.{refuses, gives}
 use Rattle.cartesian.specs.Rules.{countSays, stridesSays, linearizeSays, delinearizeSays, cornerSays}
@@ -16,7 +17,7 @@ unfolding product digitsOf
 cube-tuple = refl
 
 cube-corner : cornerSays cube 6 ≡ gives 8
-unfolding product cornerOf onesFrom
+unfolding product cornerOf onesFrom reaches
 cube-corner = refl
 
 -- ---- the rule for 9
@@ -54,15 +55,15 @@ no-number-of-zeros = refl
 
 -- a stride past 2^64 that falls back to 0
 corner-past-zero : cornerSays (2 ^ 40 ∷ 2 ^ 40 ∷ 0 ∷ 1 ∷ []) 8 ≡ gives 0
-unfolding product cornerOf onesFrom
+unfolding product cornerOf onesFrom reaches
 corner-past-zero = refl
 
 corner-before-zero : cornerSays (2 ^ 40 ∷ 2 ^ 40 ∷ 0 ∷ 1 ∷ []) 4 ≡ refuses 9
-unfolding product cornerOf onesFrom
+unfolding product cornerOf onesFrom reaches
 corner-before-zero = refl
 
 corner-of-none : cornerSays (2 ^ 40 ∷ 2 ^ 40 ∷ 0 ∷ 1 ∷ []) 0 ≡ gives 0
-unfolding product cornerOf onesFrom
+unfolding product cornerOf onesFrom reaches
 corner-of-none = refl
 
 -- ---- no axes, and too many

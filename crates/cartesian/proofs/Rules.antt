@@ -6,8 +6,8 @@
 --   Delinear rs x room ds    x is below the count of the shape, there is room, and ds are the digits of x
 --   delinearize-given, delinearize-gives    what `delinearizeSays` gives, and when
 --   corner-given    what `cornerSays` gives
-use mathlib.Core.Path.{_≡_, sym, ap, _∙_}
-use mathlib.Core.Bool.{Bool, true, false, not}
+use mathlib.Core.Path.{_≡_, sym}
+use mathlib.Core.Bool.{false, not}
 use mathlib.Core.List.{List}
 use Prim.Native.Nat.{ℕ, _^_, _<_, _≤_}
 use native.Mathlib.Omega.{arith}
@@ -16,15 +16,17 @@ use lib.Dec.{leb, ltb, eqb}
 use lib.ListN.{length}
 use Rattle.words.specs.Bits.{setBits}
 use Rattle.words.proofs.Bits.{bits-fit, bits-of-set, set-bits-monotone}
+use Rattle.bits.specs.Member.{reaches}
+use Rattle.bits.proofs.Member.{reaches-not}
 use Rattle.positional.specs.Positional.{product, Digits, numberOf, digitsOf, cornerOf}
 use Rattle.positional.proofs.Digits.{digits-long}
-use Rattle.answers.specs.Says.{Says, gives, refusedIf, andThen}
+use Rattle.answers.specs.Says.{gives, refusedIf, andThen}
 use Rattle.answers.proofs.Says.{gives-same, passed, then-gave}
-use Rattle.cartesian.specs.Checks.{fits, within, allBelow}
+use Rattle.cartesian.specs.Checks.{fits, within}
 use Rattle.cartesian.specs.Rules.{wide, sizeSays, countSays, linearizeSays, delinearizeSays, cornerSays}
 use Rattle.cartesian.proofs.Products.{size-given}
 use Rattle.cartesian.proofs.Tuples.{within-is-digits}
-use Rattle.cartesian.proofs.Corners.{fits-given, test-below}
+use Rattle.cartesian.proofs.Corners.{fits-given}
 
 -- ---- the count
 
@@ -108,14 +110,14 @@ delinearize-gives rs x room c e h l = simp (e, lt-leb c x h, le-ltb room (length
 -- ---- the offset of a corner
 
 pub corner-given : (rs : List ℕ) (axes x : ℕ) → cornerSays rs axes ≡ gives x → (axes < 2 ^ length rs) × (x ≡ cornerOf rs (setBits axes))
-corner-given rs axes x e = go (passed (wide rs) 1 (refusedIf (not (allBelow (length rs) (setBits axes))) 7 (fits (cornerOf rs (setBits axes)))) x e)
+corner-given rs axes x e = go (passed (wide rs) 1 (refusedIf (reaches (length rs) (setBits axes)) 7 (fits (cornerOf rs (setBits axes)))) x e)
   where
-    go : (wide rs ≡ false) × (refusedIf (not (allBelow (length rs) (setBits axes))) 7 (fits (cornerOf rs (setBits axes))) ≡ gives x)
+    go : (wide rs ≡ false) × (refusedIf (reaches (length rs) (setBits axes)) 7 (fits (cornerOf rs (setBits axes))) ≡ gives x)
         → (axes < 2 ^ length rs) × (x ≡ cornerOf rs (setBits axes))
-    go p = on (passed (not (allBelow (length rs) (setBits axes))) 7 (fits (cornerOf rs (setBits axes))) x (p .1))
+    go p = on (passed (reaches (length rs) (setBits axes)) 7 (fits (cornerOf rs (setBits axes))) x (p .1))
       where
-        on : (not (allBelow (length rs) (setBits axes)) ≡ false) × (fits (cornerOf rs (setBits axes)) ≡ gives x) → (axes < 2 ^ length rs) × (x ≡ cornerOf rs (setBits axes))
+        on : (reaches (length rs) (setBits axes) ≡ false) × (fits (cornerOf rs (setBits axes)) ≡ gives x) → (axes < 2 ^ length rs) × (x ≡ cornerOf rs (setBits axes))
         on q = (
-          omega (arith, bits-of-set axes, bits-fit (length rs) (setBits axes) (set-bits-monotone axes) (test-below (length rs) (setBits axes) (not-false (allBelow (length rs) (setBits axes)) (q .0)))),
+          omega (arith, bits-of-set axes, bits-fit (length rs) (setBits axes) (set-bits-monotone axes) (reaches-not (length rs) (setBits axes) .0 (q .0))),
           fits-given (cornerOf rs (setBits axes)) x (sym (q .1)),
         )

@@ -2,7 +2,6 @@
 --   fits n    the number n, or 9 if it is 2^64 or more
 --   tooBig rs n    is the product of the first j radices 2^64 or more for some j up to n?
 --   within rs ds    is every digit below its radix?
---   allBelow n w    is every number of the list below n?
 use mathlib.Core.Bool.{Bool, true, false}
 use mathlib.Core.List.{List, [], _∷_}
 use Prim.Native.Nat.{ℕ, zero, suc, _^_}
@@ -26,7 +25,3 @@ abbrev pub within : List ℕ → List ℕ → Bool
 within [] ds = true
 within (r ∷ rs) [] = true
 within (r ∷ rs) (d ∷ ds) = pick (ltb d r) (within rs ds) false
-
-abbrev pub allBelow : ℕ → List ℕ → Bool
-allBelow n [] = true
-allBelow n (x ∷ xs) = pick (ltb x n) (allBelow n xs) false

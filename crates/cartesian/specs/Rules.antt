@@ -14,9 +14,10 @@ use Prim.Native.Nat.{ℕ, _-_}
 use lib.Dec.{leb, ltb, eqb}
 use lib.ListN.{length}
 use Rattle.words.specs.Bits.{setBits}
+use Rattle.bits.specs.Member.{reaches}
 use Rattle.positional.specs.Positional.{product, stride, strides, cornerOf, numberOf, digitsOf}
 use Rattle.answers.specs.Says.{Says, gives, refusedIf, andThen}
-use Rattle.cartesian.specs.Checks.{fits, tooBig, within, allBelow}
+use Rattle.cartesian.specs.Checks.{fits, tooBig, within}
 
 abbrev pub wide : List ℕ → Bool
 wide rs = ltb 16 (length rs)
@@ -50,4 +51,4 @@ delinearizeSays rs x room = andThen (countSays rs) (λ c. refusedIf (leb c x) 3 
 -- ---- corners
 
 abbrev pub cornerSays : List ℕ → ℕ → Says ℕ
-cornerSays rs axes = refusedIf (wide rs) 1 (refusedIf (not (allBelow (length rs) (setBits axes))) 7 (fits (cornerOf rs (setBits axes))))
+cornerSays rs axes = refusedIf (wide rs) 1 (refusedIf (reaches (length rs) (setBits axes)) 7 (fits (cornerOf rs (setBits axes))))

@@ -222,7 +222,7 @@ pub fn corner(radices: &[u64], axes: u64) -> Answer
     if 16 < radices.len() {
         return Answer::Refused(Refusal::TooWide);
     }
-    if bits::shr_total(axes, radices.len() as u64) != 0 {
+    if bits::reaches(axes, radices.len() as u64) {
         return Answer::Refused(Refusal::Outside);
     }
     let mut sum = Answer::Is(0);

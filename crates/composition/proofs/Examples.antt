@@ -2,6 +2,7 @@
 use mathlib.Core.Path.{_≡_, refl}
 use mathlib.Core.List.{[], _∷_}
 use Rattle.words.specs.Inversions.{multiplicity}
+use Rattle.bits.specs.Member.{reaches}
 use Rattle.answers.specs.Says.{refuses, gives}
 use Rattle.composition.specs.Exponents.{sumOf, spelledFrom, tallyFrom, added}
 use Rattle.composition.specs.Rules.{wordSays, fromWordSays, addSays}
@@ -18,10 +19,11 @@ unfolding sumOf spelledFrom
 spelled-out = refl
 
 counted : fromWordSays 3 (2 ∷ 0 ∷ 0 ∷ []) 3 ≡ gives (2 ∷ 0 ∷ 1 ∷ [])
-unfolding tallyFrom multiplicity
+unfolding reaches tallyFrom multiplicity
 counted = refl
 
 outside : fromWordSays 3 (3 ∷ []) 0 ≡ refuses 7
+unfolding reaches
 outside = refl
 
 sum-too-wide : addSays (40 ∷ []) (40 ∷ []) 1 ≡ refuses 1

@@ -4,6 +4,7 @@ use mathlib.Core.List.{[], _∷_}
 use Prim.Native.Nat.{ℕ}
 use Rattle.words.specs.Factorial.{factorial}
 use Rattle.words.specs.Inversions.{multiplicity}
+use Rattle.bits.specs.Member.{reaches}
 use Rattle.answers.specs.Says.{refuses, gives}
 use Rattle.positional.specs.Positional.{digitsOf}
 use Rattle.deletion.specs.Multiplicities.{ceilingOf, stabilizerBelow}
@@ -26,6 +27,7 @@ no-radix : checkSays (word 0 1 0) ≡ refuses 3
 no-radix = refl
 
 no-radix-symbols : fromSymbolsSays 0 (0 ∷ []) ≡ refuses 7
+unfolding reaches
 no-radix-symbols = refl
 
 first-operand-first : concatSays (word 2 3 8) (word 2 65 0) ≡ refuses 3

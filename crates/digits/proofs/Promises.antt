@@ -23,8 +23,8 @@ use Rattle.words.proofs.Inversions.{absent-is-none}
 use Rattle.words.proofs.Members.{in-below}
 use Rattle.answers.specs.Says.{Says, gives, refusedIf, andThen}
 use Rattle.answers.proofs.Says.{gives-same, passed, then-gave}
-use Rattle.packing.specs.Checks.{allBelow}
-use Rattle.packing.proofs.Checks.{all-below-is-below}
+use Rattle.bits.specs.Member.{reaches}
+use Rattle.bits.proofs.Member.{reaches-not}
 use Rattle.positional.specs.Positional.{product, stride, Digits, numberOf, without}
 use Rattle.positional.proofs.Digits.{digits-good, number-of-digits, digits-of-number, number-below}
 use Rattle.positional.proofs.Equal.{product-equal, stride-equal, below-is-digits}
@@ -74,11 +74,11 @@ symbols-of-word n room w b short small h =
 
 pub symbols-tell-the-word : (n room : ℕ) (w : List ℕ) (x : DigitWord) → fromSymbolsSays n w ≡ gives x → length w ≤ room → symbolsSays x room ≡ gives w
 symbols-tell-the-word n room w x e h =
-    let p = passed (ltb 64 (length w)) 1 (refusedIf (not (allBelow n w)) 7 (refusedIf (leb (2 ^ 64) (n ^ length w)) 9 (gives (wordOf n w)))) x e in
-    let q = passed (not (allBelow n w)) 7 (refusedIf (leb (2 ^ 64) (n ^ length w)) 9 (gives (wordOf n w))) x (p .1) in
+    let p = passed (ltb 64 (length w)) 1 (refusedIf (reaches n w) 7 (refusedIf (leb (2 ^ 64) (n ^ length w)) 9 (gives (wordOf n w)))) x e in
+    let q = passed (reaches n w) 7 (refusedIf (leb (2 ^ 64) (n ^ length w)) 9 (gives (wordOf n w))) x (p .1) in
     let o = passed (leb (2 ^ 64) (n ^ length w)) 9 (gives (wordOf n w)) x (q .1) in
     ap (λ (y : DigitWord). symbolsSays y room) (sym (gives-same (wordOf n w) x (o .1)))
-    ∙ symbols-of-word n room w (all-below-is-below n w .0 (not-false (allBelow n w) (q .0))) (ltb-false 64 (length w) (p .0)) (leb-false (2 ^ 64) (n ^ length w) (o .0)) h
+    ∙ symbols-of-word n room w (reaches-not n w .0 (q .0)) (ltb-false 64 (length w) (p .0)) (leb-false (2 ^ 64) (n ^ length w) (o .0)) h
 
 pub word-tells-the-symbols : (x : DigitWord) (room : ℕ) (w : List ℕ) → symbolsSays x room ≡ gives w → fromSymbolsSays (x .radix) w ≡ gives x
 word-tells-the-symbols x room w e =
@@ -93,7 +93,7 @@ word-tells-the-symbols x room w e =
     (ap (λ (j : ℕ). numberOf (replicate j n) (symbolsOf x)) l ∙ number-of-digits (replicate k n) (x .rank) (omega (arith, product-equal n k, d .low))) in
     let small : n ^ length (symbolsOf x) < 2 ^ 64 = subst (λ (j : ℕ). n ^ j < 2 ^ 64) (sym l) (d .small) in
     ap (fromSymbolsSays n) (sym (gives-same (symbolsOf x) w (p .1)))
-    ∙ simp (le-ltb 64 (length (symbolsOf x)) (omega (arith, l, d .short)), all-below-is-below n (symbolsOf x) .1 (symbols-below x (d .low)), lt-leb (2 ^ 64) (n ^ length (symbolsOf x)) small)
+    ∙ simp (le-ltb 64 (length (symbolsOf x)) (omega (arith, l, d .short)), reaches-not n (symbolsOf x) .1 (symbols-below x (d .low)), lt-leb (2 ^ 64) (n ^ length (symbolsOf x)) small)
     (ap gives same)
 
 -- ---- concatenation and deletion

@@ -23,7 +23,7 @@ use lib.Dec.{leb, ltb, eqb}
 use lib.ListN.{length, getD, replicate}
 use Rattle.words.specs.Inversions.{multiplicity}
 use Rattle.answers.specs.Says.{Says, refuses, gives, refusedIf, andThen, numberOf as refusalOf}
-use Rattle.packing.specs.Checks.{allBelow}
+use Rattle.bits.specs.Member.{reaches}
 use Rattle.positional.specs.Positional.{numberOf, digitsOf, without}
 use Rattle.cartesian.specs.Checks.{fits}
 use Rattle.deletion.specs.Multiplicities.{stabilizerOf}
@@ -66,7 +66,7 @@ stabilizerSays x = given x (fits (stabilizerOf (symbolsOf x)))
 
 abbrev pub fromSymbolsSays : ℕ → List ℕ → Says DigitWord
 fromSymbolsSays n w =
-    refusedIf (ltb 64 (length w)) 1 (refusedIf (not (allBelow n w)) 7 (refusedIf (leb (2 ^ 64) (n ^ length w)) 9 (gives (wordOf n w))))
+    refusedIf (ltb 64 (length w)) 1 (refusedIf (reaches n w) 7 (refusedIf (leb (2 ^ 64) (n ^ length w)) 9 (gives (wordOf n w))))
 
 -- ---- concatenation and deletion
 

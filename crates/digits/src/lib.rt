@@ -210,7 +210,7 @@ pub fn from_symbols(radix: u64, symbols: &[u64]) -> Worded
     if 64 < degree {
         return Worded::Refused(Refusal::TooWide);
     }
-    if !packing::all_below(radix, symbols) {
+    if packing::reaches(radix, symbols) {
         return Worded::Refused(Refusal::Outside);
     }
     let Answer::Is(_) = power(radix, degree) else {

@@ -1,14 +1,18 @@
 -- `cartesian::corner` meets its contract, by the laws of `Summing`. Assumes nothing.
-use mathlib.Core.Path.{sym, ap, _∙_}
+use mathlib.Core.Path.{_≡_, sym, ap, _∙_}
+use mathlib.Core.Bool.{false}
 use mathlib.Core.Logic.{⊎-elim}
-use Prim.Native.Nat.{_-_}
+use Prim.Native.Nat.{_-_, _/_, _^_}
 use native.Mathlib.Omega.{arith}
 use borrow.Author.Needs.{needs}
-use borrow.Author.Tests.{lt-ltb, le-ltb}
+use borrow.Author.Tests.{lt-ltb, le-ltb, eqb-true, not-false}
 use lib.ListN.{length}
+use Rattle.words.specs.Bits.{setBits}
+use Rattle.bits.specs.Member.{reaches}
+use Rattle.bits.proofs.Member.{reaches-is-quotient}
 use Rattle.positional.specs.Positional.{stride}
 use Rattle.answers.specs.Says.{answerSays}
-use Rattle.cartesian.proofs.Corners.{Summing, summing-starts, summing-turn, summing-ends, axes-below, axes-past, axis-chosen, axis-left-out}
+use Rattle.cartesian.proofs.Corners.{Summing, summing-starts, summing-turn, summing-ends, axis-chosen, axis-left-out}
 use Rattle.cartesian.proofs.corner.Statement.{statement}
 use Rattle.cartesian.proofs.corner.Tie as tie
 
@@ -21,11 +25,11 @@ abbrev μ-loop : tie.MeasureT-loop
 returns : tie.Need-returns Inv-loop μ-loop
 returns c = simp (lt-ltb _ _ (c .if1 .taken))
 
-shr-total-requires : tie.Need-shr-total-requires Inv-loop μ-loop
-shr-total-requires c κs = search needs
+reaches-requires : tie.Need-reaches-requires Inv-loop μ-loop
+reaches-requires c κs = search needs
 
 returns-2 : tie.Need-returns-2 Inv-loop μ-loop
-returns-2 c = simp (le-ltb _ _ (c .before .before .if1 .left), axes-past _ _ (λ e. c .if2 .taken (c .before .shr-total .ensures ∙ e)))
+returns-2 c = simp (le-ltb _ _ (c .before .before .if1 .left), sym (c .before .reaches .ensures) ∙ c .if2 .taken)
 
 loop-holds : tie.Need-loop-holds Inv-loop μ-loop
 loop-holds c = summing-starts (c .before .before .before .before .args .radices .now) (c .before .before .before .before .args .axes)
@@ -63,8 +67,9 @@ returns-3 : tie.Need-returns-3 Inv-loop μ-loop
 returns-3 c =
     let a = c .before .before .before .before .before .before .args in
     let l = c .before .loop in
-    let e = sym (c .before .before .before .shr-total .ensures) ∙ c .before .before .if2 .left in
-    simp (le-ltb _ _ (c .before .before .before .before .if1 .left), axes-below _ _ e) (summing-ends (a .radices .now) (a .axes) (answerSays (l .sum)) (answerSays (l .stride)) (l .left) (l .i) (l .inv) (omega arith) e)
+    let e : reaches (length (a .radices .now)) (setBits (a .axes)) ≡ false = sym (c .before .before .before .reaches .ensures) ∙ c .before .before .if2 .left in
+    let none : a .axes / 2 ^ length (a .radices .now) ≡ 0 = eqb-true _ 0 (not-false _ (sym (reaches-is-quotient (length (a .radices .now)) (a .axes)) ∙ e)) in
+    simp (le-ltb _ _ (c .before .before .before .before .if1 .left), e) (summing-ends (a .radices .now) (a .axes) (answerSays (l .sum)) (answerSays (l .stride)) (l .left) (l .i) (l .inv) (omega arith) none)
 
 pub corner-spec : {M : Type 1} → statement M
 corner-spec =
@@ -73,7 +78,7 @@ corner-spec =
     Inv-loop
     μ-loop
     returns
-    shr-total-requires
+    reaches-requires
     returns-2
     loop-holds
     plus-requires

@@ -1,10 +1,10 @@
 -- `digits::from_symbols` meets its contract: each return by the checks that led there. Assumes nothing.
 use mathlib.Core.Path.{sym, ap, _∙_}
 use Prim.Native.Nat.{_^_}
-use borrow.Author.Tests.{lt-ltb, le-ltb, lt-leb, not-true, not-false}
+use borrow.Author.Tests.{lt-ltb, le-ltb, lt-leb}
 use lib.ListN.{length}
 use Rattle.answers.specs.Says.{answerSays}
-use Rattle.packing.proofs.Checks.{all-below-is-below}
+use Rattle.bits.proofs.Member.{reaches-not}
 use Rattle.digits.proofs.Rules.{fits-given, fits-refused}
 use borrow.Author.Needs.{needs}
 use Rattle.digits.proofs.from_symbols.Statement.{statement}
@@ -13,11 +13,11 @@ use Rattle.digits.proofs.from_symbols.Tie as tie
 returns : tie.Need-returns
 returns c = simp (lt-ltb _ _ (c .if1 .taken))
 
-all-below-requires : tie.Need-all-below-requires
-all-below-requires c κs = search needs
+reaches-requires : tie.Need-reaches-requires
+reaches-requires c κs = search needs
 
 returns-2 : tie.Need-returns-2
-returns-2 c = simp (le-ltb _ _ (c .before .before .if1 .left), sym (c .before .all-below .ensures) ∙ not-true _ (c .if2 .taken))
+returns-2 c = simp (le-ltb _ _ (c .before .before .if1 .left), sym (c .before .reaches .ensures) ∙ c .if2 .taken)
 
 power-requires : tie.Need-power-requires
 power-requires c κs = search needs
@@ -33,11 +33,11 @@ returns-3 c =
     let n = c .before .before .before .before .before .before .before .args .radix in
     let w = c .before .before .before .before .before .before .before .args .symbols .now in
     let t = fits-refused (n ^ length w) _ (sym (ap answerSays (c .enum-told2 .given .1)) ∙ c .before .before .power .ensures) in
-    simp (le-ltb _ _ (c .before .before .before .before .before .if1 .left), sym (c .before .before .before .before .all-below .ensures) ∙ not-false _ (c .before .before .before .if2 .left), t)
+    simp (le-ltb _ _ (c .before .before .before .before .before .if1 .left), sym (c .before .before .before .before .reaches .ensures) ∙ c .before .before .before .if2 .left, t)
 
 number-requires : tie.Need-number-requires
 number-requires c κs = (
-  all-below-is-below (c .before .before .before .before .before .before .before .args .radix) (c .before .before .before .before .before .before .before .args .symbols .now) .0 (sym (c .before .before .before .before .all-below .ensures) ∙ not-false _ (c .before .before .before .if2 .left)),
+  reaches-not (c .before .before .before .before .before .before .before .args .radix) (c .before .before .before .before .before .before .before .args .symbols .now) .0 (sym (c .before .before .before .before .reaches .ensures) ∙ c .before .before .before .if2 .left),
   fits-given (c .before .before .before .before .before .before .before .args .radix ^ length (c .before .before .before .before .before .before .before .args .symbols .now)) _ (sym (c .before .before .power .ensures) ∙ ap answerSays (c .enum-told .given .1)) .0,
 )
 
@@ -46,14 +46,14 @@ returns-4 c =
     let n = c .before .before .before .before .before .before .before .before .args .radix in
     let w = c .before .before .before .before .before .before .before .before .args .symbols .now in
     let f = fits-given (n ^ length w) _ (sym (c .before .before .before .power .ensures) ∙ ap answerSays (c .before .enum-told .given .1)) in
-    simp (le-ltb _ _ (c .before .before .before .before .before .before .if1 .left), sym (c .before .before .before .before .before .all-below .ensures) ∙ not-false _ (c .before .before .before .before .if2 .left), lt-leb (2 ^ 64) (n ^ length w) (f .0), c .number .ensures)
+    simp (le-ltb _ _ (c .before .before .before .before .before .before .if1 .left), sym (c .before .before .before .before .before .reaches .ensures) ∙ c .before .before .before .before .if2 .left, lt-leb (2 ^ 64) (n ^ length w) (f .0), c .number .ensures)
 
 pub from-symbols-spec : {M : Type 1} → statement M
 from-symbols-spec =
     tie.close
     (tie.spec
     returns
-    all-below-requires
+    reaches-requires
     returns-2
     power-requires
     enum-told
