@@ -9,10 +9,11 @@ use Prim.Native.Nat.{ℕ, suc, _+_, _-_, _*_, _/_, _%_, _^_, _≤_, _<_}
 use native.Mathlib.Nat.{mul-comm, mul-le-mul-right, div-add-mod', div-le-self, div-div-eq-div-mul, pow-succ'}
 use native.Mathlib.Omega.{arith}
 use borrow.Author.Tests.{le-ltb, lt-leb, eq-eqb}
-use lib.ListN.{length, replicate, take, drop, length-append, length-replicate, length-drop, replicate-append-replicate}
-use lib.Seq.{length-take-le}
+use lib.ListN.{length, replicate, length-append, length-replicate, replicate-append-replicate}
 use Rattle.answers.specs.Says.{gives}
-use Rattle.positional.specs.Positional.{product, stride, Digits, numberOf, digitsOf, without}
+use Rattle.words.specs.Without.{without}
+use Rattle.words.proofs.Positions.{without-long}
+use Rattle.positional.specs.Positional.{product, stride, Digits, numberOf, digitsOf}
 use Rattle.positional.proofs.Digits.{digits-good, number-of-digits, number-below}
 use Rattle.positional.proofs.Parts.{digits-append, number-append, number-without}
 use Rattle.positional.proofs.Equal.{product-equal, stride-equal, without-equal}
@@ -69,9 +70,7 @@ module _ (n k r l q s : ℕ) (low : r < n ^ k) (high : q < n ^ l) (e : s ≡ n ^
 -- p is a position, and s its stride
 module _ (n k r p s : ℕ) (low : r < n ^ k) (within : p < k) (e : s ≡ n ^ p) where
   pub taken-long : length (without p (symbols n k r)) ≡ k - 1
-  taken-long =
-      let w : List ℕ = symbols n k r in
-      omega (arith, length-append (take p w) (drop (suc p) w), length-take-le p w (omega (arith, symbols-long n k r)), length-drop (suc p) w, symbols-long n k r)
+  taken-long = omega (arith, without-long p (symbols n k r) (omega (arith, symbols-long n k r)), symbols-long n k r)
 
   fewer : without p (replicate k n) ≡ replicate (k - 1) n
   fewer = let m : k ≡ suc (k - 1) = omega arith in ap (λ (j : ℕ). without p (replicate j n)) m ∙ without-equal n (k - 1) p (omega arith)

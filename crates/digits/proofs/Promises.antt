@@ -16,6 +16,7 @@ use native.Mathlib.Omega.{arith}
 use borrow.Author.Tests.{ltb-true, ltb-false, leb-false, le-ltb, lt-leb, eqb-true, not-false}
 use lib.Dec.{leb, ltb, eqb}
 use lib.ListN.{length, getD, take, drop, replicate, length-append, length-replicate}
+use Rattle.words.specs.Without.{without}
 use Rattle.words.specs.Word.{Below}
 use Rattle.words.specs.HowMany.{HowMany}
 use Rattle.words.specs.Inversions.{multiplicity}
@@ -25,7 +26,7 @@ use Rattle.answers.specs.Says.{Says, gives, refusedIf, andThen}
 use Rattle.answers.proofs.Says.{gives-same, passed, then-gave}
 use Rattle.bits.specs.Member.{reaches}
 use Rattle.bits.proofs.Member.{reaches-not}
-use Rattle.positional.specs.Positional.{product, stride, Digits, numberOf, without}
+use Rattle.positional.specs.Positional.{product, stride, Digits, numberOf}
 use Rattle.positional.proofs.Digits.{digits-good, number-of-digits, digits-of-number, number-below}
 use Rattle.positional.proofs.Equal.{product-equal, stride-equal, below-is-digits}
 use Rattle.positional.proofs.Counted.{product-is-how-many-digits}

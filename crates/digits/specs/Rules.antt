@@ -22,9 +22,10 @@ use Prim.Native.Nat.{ℕ, _+_, _^_}
 use lib.Dec.{leb, ltb, eqb}
 use lib.ListN.{length, getD, replicate}
 use Rattle.words.specs.Inversions.{multiplicity}
+use Rattle.words.specs.Without.{without}
 use Rattle.answers.specs.Says.{Says, refuses, gives, refusedIf, andThen, numberOf as refusalOf}
 use Rattle.bits.specs.Member.{reaches}
-use Rattle.positional.specs.Positional.{numberOf, digitsOf, without}
+use Rattle.positional.specs.Positional.{numberOf, digitsOf}
 use Rattle.cartesian.specs.Checks.{fits}
 use Rattle.deletion.specs.Multiplicities.{stabilizerOf}
 use Rattle.digits.specs.declared.DigitWord.{DigitWord}

@@ -11,7 +11,8 @@ use Prim.Native.Nat.{ℕ, zero, suc, _*_, _^_, _≤_}
 use native.Mathlib.Nat.{le-of-suc-le-suc, not-suc-le-zero, pow-zero, pow-succ'}
 use lib.ListN.{length, take, replicate}
 use Rattle.words.specs.Word.{Below}
-use Rattle.positional.specs.Positional.{product, stride, Digits, without}
+use Rattle.words.specs.Without.{without}
+use Rattle.positional.specs.Positional.{product, stride, Digits}
 
 pub product-equal : (n k : ℕ) → product (replicate k n) ≡ n ^ k
 unfolding product

@@ -5,14 +5,15 @@
 --   number-low, number-high    what it leaves, and what it goes to, at a division by the stride
 --   number-high-least    it is no smaller than its digits from a position up make
 --   digits-of-long, digit-is    a number has as many digits as there are radices; the digit at a position, by its stride
---   digits-without, number-without    a position taken out: the digits below keep their place, those above slide down one
+--   number-without    a position taken out: the digits below keep their place, those above slide down one
 use mathlib.Core.Path.{_≡_, refl, sym, ap, ap₂, _∙_}
 use mathlib.Core.List.{List, [], _∷_, _++_}
 use Prim.Native.Nat.{ℕ, zero, suc, _+_, _*_, _/_, _%_, _<_, _≤_}
 use native.Mathlib.Nat.{not-suc-le-zero, le-of-suc-le-suc, mul-le-mul-right, div-one, div-div-eq-div-mul}
 use native.Mathlib.Omega.{arith}
 use lib.ListN.{length, getD, take, drop, take-append-drop}
-use Rattle.positional.specs.Positional.{product, stride, Digits, numberOf, digitsOf, without}
+use Rattle.words.specs.Without.{without}
+use Rattle.positional.specs.Positional.{product, stride, Digits, numberOf, digitsOf}
 use Rattle.positional.proofs.Digits.{digits-long, number-below, lowest-digit, upper-digits}
 
 pub digits-append : (rs ds ss es : List ℕ) → Digits rs ds → Digits ss es → Digits (rs ++ ss) (ds ++ es)
@@ -77,9 +78,6 @@ digit-is (r ∷ rs) x zero h = ap (λ (y : ℕ). y % r) (sym (div-one x))
 digit-is (r ∷ rs) x (suc i) h = digit-is rs (x / r) i (le-of-suc-le-suc h) ∙ ap (λ (y : ℕ). y % getD rs i 0) (div-div-eq-div-mul x r (stride rs i))
 
 -- ---- a position taken out
-
-pub digits-without : (rs ds : List ℕ) (i : ℕ) → Digits rs ds → Digits (without i rs) (without i ds)
-digits-without rs ds i g = digits-append (take i rs) (take i ds) (drop (suc i) rs) (drop (suc i) ds) (digits-take rs ds i g) (digits-drop rs ds (suc i) g)
 
 pub number-without : (rs ds : List ℕ) (i : ℕ) → Digits rs ds
     → numberOf (without i rs) (without i ds) ≡ numberOf rs ds % stride rs i + stride rs i * (numberOf rs ds / stride rs (suc i))

@@ -8,10 +8,9 @@
 --   numberOf rs ds    the number that has the digits ds: d0 + r0 * (d1 + r1 * ..)
 --   weighed ds ss    the sum of the digits, each times the number at its position in ss
 --   digitsOf rs x    the digits of x: x % r0, and then those of x / r0
---   without i w    the list w with position i taken out
-use mathlib.Core.List.{List, [], _∷_, _++_}
+use mathlib.Core.List.{List, [], _∷_}
 use Prim.Native.Nat.{ℕ, zero, suc, _+_, _*_, _/_, _%_, _<_}
-use lib.ListN.{length, take, drop}
+use lib.ListN.{length, take}
 
 unfoldable pub product : List ℕ → ℕ
 product [] = 1
@@ -51,6 +50,3 @@ weighed (d ∷ ds) (s ∷ ss) = d * s + weighed ds ss
 unfoldable pub digitsOf : List ℕ → ℕ → List ℕ
 digitsOf [] x = []
 digitsOf (r ∷ rs) x = (x % r) ∷ digitsOf rs (x / r)
-
-abbrev pub without : ℕ → List ℕ → List ℕ
-without i w = take i w ++ drop (suc i) w
