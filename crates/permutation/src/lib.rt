@@ -15,6 +15,7 @@ use answers::Sign;
 pub const CAPACITY: usize = 20;
 
 // A permutation of len entries: the image of place i is entries[i]. What stands past the length is ignored when taken, and zero when given.
+#[repr(C)]
 pub struct Permutation {
     pub entries: [u64; CAPACITY],
     pub len: u64,
