@@ -3,8 +3,13 @@
 --   status s    what comes back: 01's number of a refusal, or 0 for an answer
 --   stored f s old    what a place holds that held old: the part f of the value, and after a refusal what it held
 --   itself n    a number that is the whole value
---   indexAt allowed bits    an index as its two parts
 --   minus s    a sign as a truth value
+--   indexAt allowed bits, bitsOfIndex x    an index as its two parts, and its bits
+--   minusOfTerm t, bitsOfTerm t    the parts of a sign with an index
+--   minusOfRemoved d, symbolOfRemoved d, bitsOfRemoved d    the parts of a deletion: its sign, the symbol, what is left
+--   walkAt allowed standing at remaining    a walk as whether it stands at an index, the bits of that, and how many remain
+--   standingOf w, atOf w, remainingOf w    these parts of a walk; the bits are 0 where it stands nowhere
+--   bitsGiven m, standingAfter m, atAfter m, remainingAfter m    what a step gives, and the parts of the walk after it
 use mathlib.Core.Bool.{Bool, true, false}
 use Prim.Native.Nat.{ℕ}
 use Rattle.words.specs.declared.Family.{Family}
@@ -12,7 +17,12 @@ use Rattle.words.specs.declared.Family.the-variants.{Forbidden, Allowed}
 use Rattle.answers.specs.declared.Sign.{Sign}
 use Rattle.answers.specs.declared.Sign.the-variants.{Plus, Minus}
 use Rattle.answers.specs.declared.Index.{Index}
-use Rattle.answers.specs.Says.{Says, refuses, gives}
+use Rattle.answers.specs.Says.{Says, refuses, gives, Term}
+use Rattle.monotone.specs.declared.Current.{Current}
+use Rattle.monotone.specs.declared.Current.the-variants.{At, Nothing}
+use Rattle.monotone.specs.declared.Walk.{Walk}
+use Rattle.monotone.specs.Walks.{Moved}
+use Rattle.deletion.specs.Rules.{Removed}
 
 abbrev pub familyOf : Bool → Family
 familyOf true = Allowed
@@ -29,9 +39,67 @@ stored f (gives a) old = f a
 abbrev pub itself : ℕ → ℕ
 itself n = n
 
-abbrev pub indexAt : Bool → ℕ → Index
-indexAt allowed bits = record { family = familyOf allowed; bits = bits }
-
 abbrev pub minus : Sign → Bool
 minus Plus = false
 minus Minus = true
+
+-- ---- indices, with a sign and after a deletion
+
+abbrev pub indexAt : Bool → ℕ → Index
+indexAt allowed bits = record { family = familyOf allowed; bits = bits }
+
+abbrev pub bitsOfIndex : Index → ℕ
+bitsOfIndex x = x .bits
+
+abbrev pub minusOfTerm : Term → Bool
+minusOfTerm t = minus (t .sign)
+
+abbrev pub bitsOfTerm : Term → ℕ
+bitsOfTerm t = t .index .bits
+
+abbrev pub minusOfRemoved : Removed → Bool
+minusOfRemoved d = minus (d .sign)
+
+abbrev pub symbolOfRemoved : Removed → ℕ
+symbolOfRemoved d = d .symbol
+
+abbrev pub bitsOfRemoved : Removed → ℕ
+bitsOfRemoved d = d .index .bits
+
+-- ---- walks
+
+abbrev pub currentAt : Bool → Index → Current
+currentAt true x = At x
+currentAt false x = Nothing
+
+abbrev pub walkAt : Bool → Bool → ℕ → ℕ → Walk
+walkAt allowed standing at remaining = record { current = currentAt standing (indexAt allowed at); remaining = remaining }
+
+abbrev pub stands : Current → Bool
+stands (At x) = true
+stands Nothing = false
+
+abbrev pub bitsThere : Current → ℕ
+bitsThere (At x) = x .bits
+bitsThere Nothing = 0
+
+abbrev pub standingOf : Walk → Bool
+standingOf w = stands (w .current)
+
+abbrev pub atOf : Walk → ℕ
+atOf w = bitsThere (w .current)
+
+abbrev pub remainingOf : Walk → ℕ
+remainingOf w = w .remaining
+
+abbrev pub bitsGiven : Moved → ℕ
+bitsGiven m = m .index .bits
+
+abbrev pub standingAfter : Moved → Bool
+standingAfter m = standingOf (m .state)
+
+abbrev pub atAfter : Moved → ℕ
+atAfter m = atOf (m .state)
+
+abbrev pub remainingAfter : Moved → ℕ
+remainingAfter m = remainingOf (m .state)

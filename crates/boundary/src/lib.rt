@@ -2,12 +2,21 @@
 // caller's, which is written only on an answer.
 ghost use mathlib.Core.Path.{_≡_};
 ghost use Rattle.answers.specs.Says.{answerSays, indexedSays, signedSays};
-ghost use Rattle.boundary.specs.Boundary.{familyOf, status, stored, itself, indexAt, minus};
+ghost use Rattle.monotone.specs.Walks.{startedSays, steppedSays};
+ghost use Rattle.deletion.specs.Rules.{deletedSays};
+ghost use Rattle.boundary.specs.Boundary.{familyOf, status, stored, itself, indexAt, minus, bitsOfIndex, minusOfTerm, bitsOfTerm};
+ghost use Rattle.boundary.specs.Boundary.{minusOfRemoved, symbolOfRemoved, bitsOfRemoved};
+ghost use Rattle.boundary.specs.Boundary.{walkAt, stands, bitsThere, standingOf, atOf, remainingOf, bitsGiven, standingAfter, atAfter, remainingAfter};
 use answers::Answer;
 use answers::Index;
 use answers::Indexed;
 use answers::Sign;
 use answers::Signed;
+use deletion::Deleted;
+use monotone::Current;
+use monotone::Started;
+use monotone::Stepped;
+use monotone::Walk;
 use words::Family;
 
 // The family that a truth value stands for.
@@ -55,7 +64,7 @@ pub fn number(a: Answer, out: &mut u64) -> u64
 // The bits of an index.
 pub fn bits(a: Indexed, out: &mut u64) -> u64
     ensures back { λ r. ⌜ r ≡ status (indexedSays a) ⌝ }
-    ensures holds { λ r. ⌜ now (out .exit) ≡ stored (λ x. x .bits) (indexedSays a) (now (out .entry)) ⌝ }
+    ensures holds { λ r. ⌜ now (out .exit) ≡ stored bitsOfIndex (indexedSays a) (now (out .entry)) ⌝ }
 {
     match a {
         Indexed::At(x) => {
@@ -69,8 +78,8 @@ pub fn bits(a: Indexed, out: &mut u64) -> u64
 // A sign, as whether it is minus, and the bits of an index.
 pub fn signed(a: Signed, sign: &mut bool, out: &mut u64) -> u64
     ensures back { λ r. ⌜ r ≡ status (signedSays a) ⌝ }
-    ensures sign { λ r. ⌜ now (sign .exit) ≡ stored (λ t. minus (t .sign)) (signedSays a) (now (sign .entry)) ⌝ }
-    ensures bits { λ r. ⌜ now (out .exit) ≡ stored (λ t. t .index .bits) (signedSays a) (now (out .entry)) ⌝ }
+    ensures sign { λ r. ⌜ now (sign .exit) ≡ stored minusOfTerm (signedSays a) (now (sign .entry)) ⌝ }
+    ensures bits { λ r. ⌜ now (out .exit) ≡ stored bitsOfTerm (signedSays a) (now (out .entry)) ⌝ }
 {
     match a {
         Signed::At(s, x) => {
@@ -79,5 +88,101 @@ pub fn signed(a: Signed, sign: &mut bool, out: &mut u64) -> u64
             0
         }
         Signed::Refused(e) => answers::number(e),
+    }
+}
+
+// A sign, as whether it is minus, the symbol that was deleted, and the bits of what is left.
+pub fn deleted(a: Deleted, sign: &mut bool, symbol: &mut u64, out: &mut u64) -> u64
+    ensures back { λ r. ⌜ r ≡ status (deletedSays a) ⌝ }
+    ensures sign { λ r. ⌜ now (sign .exit) ≡ stored minusOfRemoved (deletedSays a) (now (sign .entry)) ⌝ }
+    ensures symbol { λ r. ⌜ now (symbol .exit) ≡ stored symbolOfRemoved (deletedSays a) (now (symbol .entry)) ⌝ }
+    ensures bits { λ r. ⌜ now (out .exit) ≡ stored bitsOfRemoved (deletedSays a) (now (out .entry)) ⌝ }
+{
+    match a {
+        Deleted::At(s, gone, x) => {
+            *sign = is_minus(s);
+            *symbol = gone;
+            *out = x.bits;
+            0
+        }
+        Deleted::Refused(e) => answers::number(e),
+    }
+}
+
+// A walk from its parts: whether it stands at an index, the bits of that, and how many it has still to give.
+pub fn walk(allowed: bool, standing: bool, at: u64, remaining: u64) -> Walk
+    ensures { λ r. ⌜ r ≡ walkAt allowed standing at remaining ⌝ }
+{
+    if standing {
+        let current = Current::At(index(allowed, at));
+        return Walk { current, remaining };
+    }
+    let current = Current::Nothing;
+    Walk { current, remaining }
+}
+
+// Whether a walk stands at an index.
+fn is_standing(current: Current) -> bool
+    ensures { λ r. ⌜ r ≡ stands current ⌝ }
+{
+    match current {
+        Current::At(_) => true,
+        Current::Nothing => false,
+    }
+}
+
+// The bits of the index that a walk stands at, and 0 if it stands nowhere.
+fn bits_there(current: Current) -> u64
+    ensures { λ r. ⌜ r ≡ bitsThere current ⌝ }
+{
+    match current {
+        Current::At(x) => x.bits,
+        Current::Nothing => 0,
+    }
+}
+
+// The three parts of a walk.
+pub fn started(a: Started, standing: &mut bool, at: &mut u64, remaining: &mut u64) -> u64
+    ensures back { λ r. ⌜ r ≡ status (startedSays a) ⌝ }
+    ensures standing { λ r. ⌜ now (standing .exit) ≡ stored standingOf (startedSays a) (now (standing .entry)) ⌝ }
+    ensures at { λ r. ⌜ now (at .exit) ≡ stored atOf (startedSays a) (now (at .entry)) ⌝ }
+    ensures remaining { λ r. ⌜ now (remaining .exit) ≡ stored remainingOf (startedSays a) (now (remaining .entry)) ⌝ }
+{
+    match a {
+        Started::Walk(w) => {
+            let current = w.current;
+            *standing = is_standing(current);
+            *at = bits_there(current);
+            *remaining = w.remaining;
+            0
+        }
+        Started::Refused(e) => answers::number(e),
+    }
+}
+
+// The bits of the index that a step gives, and the three parts of the walk after it.
+pub fn stepped(
+    a: Stepped,
+    standing: &mut bool,
+    at: &mut u64,
+    remaining: &mut u64,
+    out: &mut u64,
+) -> u64
+    ensures back { λ r. ⌜ r ≡ status (steppedSays a) ⌝ }
+    ensures standing { λ r. ⌜ now (standing .exit) ≡ stored standingAfter (steppedSays a) (now (standing .entry)) ⌝ }
+    ensures at { λ r. ⌜ now (at .exit) ≡ stored atAfter (steppedSays a) (now (at .entry)) ⌝ }
+    ensures remaining { λ r. ⌜ now (remaining .exit) ≡ stored remainingAfter (steppedSays a) (now (remaining .entry)) ⌝ }
+    ensures bits { λ r. ⌜ now (out .exit) ≡ stored bitsGiven (steppedSays a) (now (out .entry)) ⌝ }
+{
+    match a {
+        Stepped::Step(x, w) => {
+            let current = w.current;
+            *standing = is_standing(current);
+            *at = bits_there(current);
+            *remaining = w.remaining;
+            *out = x.bits;
+            0
+        }
+        Stepped::Refused(e) => answers::number(e),
     }
 }
