@@ -1,0 +1,28 @@
+use mathlib.Core.Path.{sym}
+use borrow.Author.Needs.{needs}
+use Rattle.capi.proofs.terms.gudrenoss_pack.Statement.{statement}
+use Rattle.capi.proofs.terms.gudrenoss_pack.Tie as tie
+use Rattle.capi.proofs.terms.gudrenoss_pack.Reads as reads
+use Rattle.capi.proofs.terms.gudrenoss_pack.Lts as lts
+use Rattle.boundary.proofs.bits.Reads as bits-reads
+use Rattle.boundary.proofs.family.Reads as family-reads
+use Rattle.monotone.proofs.pack.Reads as pack-reads
+
+-- src/terms.rt:29:35
+family-requires : tie.Need-family-requires
+family-requires c κs = search needs
+
+-- src/terms.rt:29:20
+pack-requires : tie.Need-pack-requires
+pack-requires c κs = search needs
+
+-- src/terms.rt:29:5
+bits-requires : tie.Need-bits-requires
+bits-requires c κs = search needs
+
+-- src/terms.rt:24:1
+returns : tie.Need-returns
+returns c = simp (sym (c .before .before .before .family .ensures), sym (c .before .before .pack .ensures)) (c .bits .ensures)
+
+pub gudrenoss-pack-spec : {M : Type 1} → statement M
+gudrenoss-pack-spec = tie.close (tie.spec family-requires pack-requires bits-requires returns)

@@ -1,0 +1,29 @@
+use mathlib.Core.Path.{sym}
+use borrow.Author.Needs.{needs}
+use Rattle.capi.proofs.terms.gudrenoss_unrank_over.Statement.{statement}
+use Rattle.capi.proofs.terms.gudrenoss_unrank_over.Tie as tie
+use Rattle.capi.proofs.terms.gudrenoss_unrank_over.Reads as reads
+use Rattle.capi.proofs.terms.gudrenoss_unrank_over.Lts as lts
+use Rattle.boundary.proofs.bits.Reads as bits-reads
+use Rattle.boundary.proofs.family.Reads as family-reads
+use Rattle.monotone.proofs.unrank_over.Reads as unrank-over-reads
+
+-- src/terms.rt:121:31
+family-requires : tie.Need-family-requires
+family-requires c κs = search needs
+
+-- src/terms.rt:121:9
+unrank-over-requires : tie.Need-unrank-over-requires
+unrank-over-requires c κs = search needs
+
+-- src/terms.rt:120:5
+bits-requires : tie.Need-bits-requires
+bits-requires c κs = search needs
+
+-- src/terms.rt:109:1
+returns : tie.Need-returns
+returns c = simp (sym (c .before .before .before .family .ensures), sym (c .before .before .unrank-over .ensures)) (c .bits .ensures)
+
+pub gudrenoss-unrank-over-spec : {M : Type 1} → statement M
+gudrenoss-unrank-over-spec =
+    tie.close (tie.spec family-requires unrank-over-requires bits-requires returns)

@@ -1,0 +1,28 @@
+use borrow.Author.Needs.{needs}
+use Rattle.capi.proofs.terms.gudrenoss_walk_step.Statement.{statement}
+use Rattle.capi.proofs.terms.gudrenoss_walk_step.Tie as tie
+use Rattle.capi.proofs.terms.gudrenoss_walk_step.Reads as reads
+use Rattle.capi.proofs.terms.gudrenoss_walk_step.Lts as lts
+use Rattle.boundary.proofs.stepped.Reads as stepped-reads
+use Rattle.boundary.proofs.walk.Reads as walk-reads
+use Rattle.monotone.proofs.step.Reads as step-reads
+
+-- src/terms.rt:183:9
+walk-requires : tie.Need-walk-requires
+walk-requires c κs = search needs
+
+-- src/terms.rt:184:23
+step-requires : tie.Need-step-requires
+step-requires c κs = search needs
+
+-- src/terms.rt:184:5
+stepped-requires : tie.Need-stepped-requires
+stepped-requires c κs = search needs
+
+-- src/terms.rt:169:1
+returns : tie.Need-returns
+returns c = simp (c .before .before .before .before .before .step .ensures, c .before .before .before .before .before .before .walk .ensures) at (c .stepped .ensures)
+
+pub gudrenoss-walk-step-spec : {M : Type 1} → statement M
+gudrenoss-walk-step-spec =
+    tie.close (tie.spec walk-requires step-requires stepped-requires returns)
