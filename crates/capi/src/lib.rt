@@ -9,4 +9,6 @@
 //   digit_words     count, from symbols, symbols, symbol, multiplicity, stabilizer, concatenation, deletion
 //   exponents       to a word, from a word, rank, from a rank, addition
 mod permutations;
+mod sets;
+mod signed;
 mod terms;
