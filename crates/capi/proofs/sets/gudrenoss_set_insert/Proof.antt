@@ -1,4 +1,3 @@
-use mathlib.Core.Path.{sym}
 use borrow.Author.Needs.{needs}
 use Rattle.capi.proofs.sets.gudrenoss_set_insert.Statement.{statement}
 use Rattle.capi.proofs.sets.gudrenoss_set_insert.Tie as tie
@@ -17,7 +16,7 @@ number-requires c κs = search needs
 
 -- src/sets.rt:10:1
 returns : tie.Need-returns
-returns c = simp (sym (c .before .before .insert .ensures)) (c .number .ensures)
+returns c = simp (c .before .before .insert .ensures) at (c .number .ensures)
 
 pub gudrenoss-set-insert-spec : {M : Type 1} → statement M
 gudrenoss-set-insert-spec = tie.close (tie.spec insert-requires number-requires returns)

@@ -1,4 +1,3 @@
-use mathlib.Core.Path.{sym}
 use borrow.Author.Needs.{needs}
 use Rattle.capi.proofs.sets.gudrenoss_set_position.Statement.{statement}
 use Rattle.capi.proofs.sets.gudrenoss_set_position.Tie as tie
@@ -17,7 +16,7 @@ number-requires c κs = search needs
 
 -- src/sets.rt:29:1
 returns : tie.Need-returns
-returns c = simp (sym (c .before .before .position .ensures)) (c .number .ensures)
+returns c = simp (c .before .before .position .ensures) at (c .number .ensures)
 
 pub gudrenoss-set-position-spec : {M : Type 1} → statement M
 gudrenoss-set-position-spec = tie.close (tie.spec position-requires number-requires returns)

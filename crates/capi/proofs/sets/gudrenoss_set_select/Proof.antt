@@ -1,4 +1,3 @@
-use mathlib.Core.Path.{sym}
 use borrow.Author.Needs.{needs}
 use Rattle.capi.proofs.sets.gudrenoss_set_select.Statement.{statement}
 use Rattle.capi.proofs.sets.gudrenoss_set_select.Tie as tie
@@ -17,7 +16,7 @@ number-requires c κs = search needs
 
 -- src/sets.rt:38:1
 returns : tie.Need-returns
-returns c = simp (sym (c .before .before .select .ensures)) (c .number .ensures)
+returns c = simp (c .before .before .select .ensures) at (c .number .ensures)
 
 pub gudrenoss-set-select-spec : {M : Type 1} → statement M
 gudrenoss-set-select-spec = tie.close (tie.spec select-requires number-requires returns)

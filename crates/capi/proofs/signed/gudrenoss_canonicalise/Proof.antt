@@ -1,4 +1,3 @@
-use mathlib.Core.Path.{sym}
 use borrow.Author.Needs.{needs}
 use Rattle.capi.proofs.signed.gudrenoss_canonicalise.Statement.{statement}
 use Rattle.capi.proofs.signed.gudrenoss_canonicalise.Tie as tie
@@ -22,7 +21,7 @@ signed-requires c κs = search needs
 
 -- src/signed.rt:10:1
 returns : tie.Need-returns
-returns c = simp (sym (c .before .before .before .before .family .ensures), sym (c .before .before .before .canonicalise .ensures)) (c .signed .ensures)
+returns c = simp (c .before .before .before .canonicalise .ensures, c .before .before .before .before .family .ensures) at (c .signed .ensures)
 
 pub gudrenoss-canonicalise-spec : {M : Type 1} → statement M
 gudrenoss-canonicalise-spec =

@@ -1,4 +1,3 @@
-use mathlib.Core.Path.{sym}
 use borrow.Author.Needs.{needs}
 use Rattle.capi.proofs.terms.gudrenoss_count.Statement.{statement}
 use Rattle.capi.proofs.terms.gudrenoss_count.Tie as tie
@@ -22,7 +21,7 @@ number-requires c κs = search needs
 
 -- src/terms.rt:8:1
 returns : tie.Need-returns
-returns c = simp (sym (c .before .before .before .family .ensures), sym (c .before .before .count .ensures)) (c .number .ensures)
+returns c = simp (c .before .before .count .ensures, c .before .before .before .family .ensures) at (c .number .ensures)
 
 pub gudrenoss-count-spec : {M : Type 1} → statement M
 gudrenoss-count-spec = tie.close (tie.spec family-requires count-requires number-requires returns)

@@ -1,4 +1,3 @@
-use mathlib.Core.Path.{sym}
 use borrow.Author.Needs.{needs}
 use Rattle.capi.proofs.terms.gudrenoss_unrank.Statement.{statement}
 use Rattle.capi.proofs.terms.gudrenoss_unrank.Tie as tie
@@ -26,7 +25,7 @@ same-length c = search needs
 
 -- src/terms.rt:27:1
 returns : tie.Need-returns
-returns c = simp (sym (c .before .before .before .before .before .before .family .ensures), sym (c .before .before .before .before .unrank .ensures .0)) (c .number .ensures .0, (c .number .ensures .1, c .before .before .before .before .unrank .ensures .1))
+returns c = (simp (c .before .before .before .before .unrank .ensures .0, c .before .before .before .before .before .before .family .ensures) at (c .number .ensures .0), (simp (c .before .before .before .before .unrank .ensures .0, c .before .before .before .before .before .before .family .ensures) at (c .number .ensures .1), simp (c .before .before .before .before .before .before .family .ensures) at (c .before .before .before .before .unrank .ensures .1)))
 
 pub gudrenoss-unrank-spec : {M : Type 1} → statement M
 gudrenoss-unrank-spec =

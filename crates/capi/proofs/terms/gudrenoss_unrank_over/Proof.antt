@@ -1,4 +1,3 @@
-use mathlib.Core.Path.{sym}
 use borrow.Author.Needs.{needs}
 use Rattle.capi.proofs.terms.gudrenoss_unrank_over.Statement.{statement}
 use Rattle.capi.proofs.terms.gudrenoss_unrank_over.Tie as tie
@@ -22,7 +21,7 @@ bits-requires c κs = search needs
 
 -- src/terms.rt:109:1
 returns : tie.Need-returns
-returns c = simp (sym (c .before .before .before .family .ensures), sym (c .before .before .unrank-over .ensures)) (c .bits .ensures)
+returns c = simp (c .before .before .unrank-over .ensures, c .before .before .before .family .ensures) at (c .bits .ensures)
 
 pub gudrenoss-unrank-over-spec : {M : Type 1} → statement M
 gudrenoss-unrank-over-spec =

@@ -1,4 +1,3 @@
-use mathlib.Core.Path.{sym}
 use borrow.Author.Needs.{needs}
 use Rattle.capi.proofs.terms.gudrenoss_walk_start.Statement.{statement}
 use Rattle.capi.proofs.terms.gudrenoss_walk_start.Tie as tie
@@ -22,7 +21,7 @@ started-requires c κs = search needs
 
 -- src/terms.rt:145:1
 returns : tie.Need-returns
-returns c = simp (sym (c .before .before .before .before .before .family .ensures), sym (c .before .before .before .before .start .ensures)) (c .started .ensures)
+returns c = simp (c .before .before .before .before .start .ensures, c .before .before .before .before .before .family .ensures) at (c .started .ensures)
 
 pub gudrenoss-walk-start-spec : {M : Type 1} → statement M
 gudrenoss-walk-start-spec =
