@@ -8,7 +8,9 @@
 //   shapes          count, strides, linearize, delinearize, corner
 //   digit_words     count, from symbols, symbols, symbol, multiplicity, stabilizer, concatenation, deletion
 //   exponents       to a word, from a word, rank, from a rank, addition
+mod exponents;
 mod permutations;
 mod sets;
+mod shapes;
 mod signed;
 mod terms;
