@@ -1,1 +1,2 @@
+pub mod DigitWords
 pub mod Permutations

@@ -8,6 +8,7 @@
 //   shapes          count, strides, linearize, delinearize, corner
 //   digit_words     count, from symbols, symbols, symbol, multiplicity, stabilizer, concatenation, deletion
 //   exponents       to a word, from a word, rank, from a rank, addition
+mod digit_words;
 mod exponents;
 mod permutations;
 mod sets;

@@ -1,0 +1,23 @@
+use mathlib.Core.Path.{sym}
+use borrow.Author.Needs.{needs}
+use Rattle.capi.proofs.digit_words.gudrenoss_digits_delete.Statement.{statement}
+use Rattle.capi.proofs.digit_words.gudrenoss_digits_delete.Tie as tie
+use Rattle.capi.proofs.digit_words.gudrenoss_digits_delete.Reads as reads
+use Rattle.capi.proofs.digit_words.gudrenoss_digits_delete.Lts as lts
+use Rattle.capi.proofs.digit_words.deleted.Reads as deleted-reads
+use Rattle.digits.proofs.delete.Reads as delete-reads
+
+-- src/digit_words.rt:199:13
+delete-requires : tie.Need-delete-requires
+delete-requires c κs = search needs
+
+-- src/digit_words.rt:199:5
+deleted-requires : tie.Need-deleted-requires
+deleted-requires c κs = search needs
+
+-- src/digit_words.rt:181:1
+returns : tie.Need-returns
+returns c = simp (sym (c .before .before .before .delete .ensures)) (c .deleted .ensures)
+
+pub gudrenoss-digits-delete-spec : {M : Type 1} → statement M
+gudrenoss-digits-delete-spec = tie.close (tie.spec delete-requires deleted-requires returns)
