@@ -1,5 +1,6 @@
-// Permutations, for programs in C (docs/RULES.md, section 8). A permutation crosses by value, as its twenty entries and its length. A result crosses as its entries,
-// in a lent array of twenty places: its length is that of what was given, and the places past it are 0.
+// Permutations, for programs in C (docs/RULES.md, section 8). A permutation crosses by value, as its twenty entries and its length; it is good if its entries up to the
+// length are a bijection of 0 .. length - 1. A result crosses as its entries, in a lent array of twenty places: its length is that of what was given, or the n asked for,
+// and the places past it are 0.
 ghost use mathlib.Core.Path.{_≡_};
 ghost use Rattle.permutation.specs.Record.{arrangedSays, signsSays};
 ghost use Rattle.permutation.specs.Rules.{imageSays, inverseSays, composeSays, signSays};
