@@ -1,4 +1,3 @@
-use mathlib.Core.Path.{sym}
 use borrow.Author.Needs.{needs}
 use Rattle.capi.proofs.digit_words.gudrenoss_digits_count.Statement.{statement}
 use Rattle.capi.proofs.digit_words.gudrenoss_digits_count.Tie as tie
@@ -17,7 +16,7 @@ number-requires c κs = search needs
 
 -- src/digit_words.rt:46:1
 returns : tie.Need-returns
-returns c = simp (sym (c .before .before .count .ensures)) (c .number .ensures)
+returns c = simp (c .before .before .count .ensures) at (c .number .ensures)
 
 pub gudrenoss-digits-count-spec : {M : Type 1} → statement M
 gudrenoss-digits-count-spec = tie.close (tie.spec count-requires number-requires returns)

@@ -1,4 +1,3 @@
-use mathlib.Core.Path.{sym}
 use borrow.Author.Needs.{needs}
 use Rattle.capi.proofs.digit_words.gudrenoss_digits_delete.Statement.{statement}
 use Rattle.capi.proofs.digit_words.gudrenoss_digits_delete.Tie as tie
@@ -17,7 +16,7 @@ deleted-requires c κs = search needs
 
 -- src/digit_words.rt:181:1
 returns : tie.Need-returns
-returns c = simp (sym (c .before .before .before .delete .ensures)) (c .deleted .ensures)
+returns c = simp (c .before .before .before .delete .ensures) at (c .deleted .ensures)
 
 pub gudrenoss-digits-delete-spec : {M : Type 1} → statement M
 gudrenoss-digits-delete-spec = tie.close (tie.spec delete-requires deleted-requires returns)

@@ -1,4 +1,3 @@
-use mathlib.Core.Path.{sym}
 use borrow.Author.Needs.{needs}
 use Rattle.capi.proofs.digit_words.gudrenoss_digits_multiplicity.Statement.{statement}
 use Rattle.capi.proofs.digit_words.gudrenoss_digits_multiplicity.Tie as tie
@@ -17,7 +16,7 @@ number-requires c κs = search needs
 
 -- src/digit_words.rt:112:1
 returns : tie.Need-returns
-returns c = simp (sym (c .before .before .multiplicity .ensures)) (c .number .ensures)
+returns c = simp (c .before .before .multiplicity .ensures) at (c .number .ensures)
 
 pub gudrenoss-digits-multiplicity-spec : {M : Type 1} → statement M
 gudrenoss-digits-multiplicity-spec =

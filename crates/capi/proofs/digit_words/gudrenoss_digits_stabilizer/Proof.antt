@@ -1,4 +1,3 @@
-use mathlib.Core.Path.{sym}
 use borrow.Author.Needs.{needs}
 use Rattle.capi.proofs.digit_words.gudrenoss_digits_stabilizer.Statement.{statement}
 use Rattle.capi.proofs.digit_words.gudrenoss_digits_stabilizer.Tie as tie
@@ -17,7 +16,7 @@ number-requires c κs = search needs
 
 -- src/digit_words.rt:132:1
 returns : tie.Need-returns
-returns c = simp (sym (c .before .before .stabilizer .ensures)) (c .number .ensures)
+returns c = simp (c .before .before .stabilizer .ensures) at (c .number .ensures)
 
 pub gudrenoss-digits-stabilizer-spec : {M : Type 1} → statement M
 gudrenoss-digits-stabilizer-spec = tie.close (tie.spec stabilizer-requires number-requires returns)

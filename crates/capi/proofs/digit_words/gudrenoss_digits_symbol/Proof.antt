@@ -1,4 +1,3 @@
-use mathlib.Core.Path.{sym}
 use borrow.Author.Needs.{needs}
 use Rattle.capi.proofs.digit_words.gudrenoss_digits_symbol.Statement.{statement}
 use Rattle.capi.proofs.digit_words.gudrenoss_digits_symbol.Tie as tie
@@ -17,7 +16,7 @@ number-requires c κs = search needs
 
 -- src/digit_words.rt:92:1
 returns : tie.Need-returns
-returns c = simp (sym (c .before .before .symbol .ensures)) (c .number .ensures)
+returns c = simp (c .before .before .symbol .ensures) at (c .number .ensures)
 
 pub gudrenoss-digits-symbol-spec : {M : Type 1} → statement M
 gudrenoss-digits-symbol-spec = tie.close (tie.spec symbol-requires number-requires returns)

@@ -1,4 +1,3 @@
-use mathlib.Core.Path.{sym}
 use borrow.Author.Needs.{needs}
 use Rattle.capi.proofs.permutations.gudrenoss_permutation_image.Statement.{statement}
 use Rattle.capi.proofs.permutations.gudrenoss_permutation_image.Tie as tie
@@ -17,7 +16,7 @@ number-requires c κs = search needs
 
 -- src/permutations.rt:47:1
 returns : tie.Need-returns
-returns c = simp (sym (c .before .before .image .ensures)) (c .number .ensures)
+returns c = simp (c .before .before .image .ensures) at (c .number .ensures)
 
 pub gudrenoss-permutation-image-spec : {M : Type 1} → statement M
 gudrenoss-permutation-image-spec = tie.close (tie.spec image-requires number-requires returns)

@@ -1,4 +1,3 @@
-use mathlib.Core.Path.{sym}
 use borrow.Author.Needs.{needs}
 use Rattle.capi.proofs.permutations.gudrenoss_permutation_sign.Statement.{statement}
 use Rattle.capi.proofs.permutations.gudrenoss_permutation_sign.Tie as tie
@@ -17,7 +16,7 @@ signed-requires c κs = search needs
 
 -- src/permutations.rt:78:1
 returns : tie.Need-returns
-returns c = simp (sym (c .before .before .sign .ensures)) (c .signed .ensures)
+returns c = simp (c .before .before .sign .ensures) at (c .signed .ensures)
 
 pub gudrenoss-permutation-sign-spec : {M : Type 1} → statement M
 gudrenoss-permutation-sign-spec = tie.close (tie.spec sign-requires signed-requires returns)

@@ -1,4 +1,3 @@
-use mathlib.Core.Path.{sym}
 use borrow.Author.Needs.{needs}
 use Rattle.capi.proofs.shapes.gudrenoss_shape_corner.Statement.{statement}
 use Rattle.capi.proofs.shapes.gudrenoss_shape_corner.Tie as tie
@@ -17,7 +16,7 @@ number-requires c κs = search needs
 
 -- src/shapes.rt:64:1
 returns : tie.Need-returns
-returns c = simp (sym (c .before .before .corner .ensures)) (c .number .ensures)
+returns c = simp (c .before .before .corner .ensures) at (c .number .ensures)
 
 pub gudrenoss-shape-corner-spec : {M : Type 1} → statement M
 gudrenoss-shape-corner-spec = tie.close (tie.spec corner-requires number-requires returns)

@@ -1,4 +1,3 @@
-use mathlib.Core.Path.{sym}
 use borrow.Author.Needs.{needs}
 use Rattle.capi.proofs.shapes.gudrenoss_shape_count.Statement.{statement}
 use Rattle.capi.proofs.shapes.gudrenoss_shape_count.Tie as tie
@@ -17,7 +16,7 @@ number-requires c κs = search needs
 
 -- src/shapes.rt:10:1
 returns : tie.Need-returns
-returns c = simp (sym (c .before .before .shape-count .ensures)) (c .number .ensures)
+returns c = simp (c .before .before .shape-count .ensures) at (c .number .ensures)
 
 pub gudrenoss-shape-count-spec : {M : Type 1} → statement M
 gudrenoss-shape-count-spec = tie.close (tie.spec shape-count-requires number-requires returns)

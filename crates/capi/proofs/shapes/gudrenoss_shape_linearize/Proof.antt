@@ -1,4 +1,3 @@
-use mathlib.Core.Path.{sym}
 use borrow.Author.Needs.{needs}
 use Rattle.capi.proofs.shapes.gudrenoss_shape_linearize.Statement.{statement}
 use Rattle.capi.proofs.shapes.gudrenoss_shape_linearize.Tie as tie
@@ -17,7 +16,7 @@ number-requires c κs = search needs
 
 -- src/shapes.rt:34:1
 returns : tie.Need-returns
-returns c = simp (sym (c .before .before .linearize .ensures)) (c .number .ensures)
+returns c = simp (c .before .before .linearize .ensures) at (c .number .ensures)
 
 pub gudrenoss-shape-linearize-spec : {M : Type 1} → statement M
 gudrenoss-shape-linearize-spec = tie.close (tie.spec linearize-requires number-requires returns)
