@@ -1,0 +1,824 @@
+/* fuzz CALLS [SEED]: calls every function of the library with structured and random values, and compares what it gives back, every
+ * place that it may write, every place around those, and every list that it reads with the model. It prints for each function how
+ * many calls were answers and how many refusals; its last line is 'N calls, 0 broken', and its exit status then 0. */
+#include "model.h"
+
+#include <stdio.h>
+
+/* ---- Random numbers (splitmix64) -------------------------------------------------------------------------------------------- */
+
+static uint64_t state;
+
+static uint64_t any(void)
+{
+    uint64_t z = state += UINT64_C(0x9e3779b97f4a7c15);
+    z = (z ^ z >> 30) * UINT64_C(0xbf58476d1ce4e5b9);
+    z = (z ^ z >> 27) * UINT64_C(0x94d049bb133111eb);
+    return z ^ z >> 31;
+}
+
+static uint64_t below(uint64_t n)
+{
+    return any() % n;
+}
+
+static bool coin(void)
+{
+    return any() >> 63;
+}
+
+/* Mostly a small number, sometimes one near `edge`, near a power of two, or any. */
+static uint64_t number(uint64_t edge)
+{
+    switch (below(8)) {
+    case 0: return edge - 3 + below(7);
+    case 1: return ((uint64_t)1 << below(64)) - 1 + below(3);
+    case 2: return below(4) == 0 ? UINT64_MAX - below(3) : any();
+    case 3: return below(edge + 2);
+    default: return below(7);
+    }
+}
+
+/* Bits: few, many, low, high or any. */
+static uint64_t bits(void)
+{
+    switch (below(7)) {
+    case 0: return any();
+    case 1: return any() & any() & any();
+    case 2: return any() | any() | any();
+    case 3: return below(64) == 0 ? 0 : UINT64_MAX << below(64);
+    case 4: return UINT64_MAX >> below(64);
+    case 5: return (uint64_t)1 << below(64) | (uint64_t)1 << below(64);
+    default: return below(1024);
+    }
+}
+
+/* ---- Guarded memory --------------------------------------------------------------------------------------------------------- */
+
+enum { guard = 4, most = 80 };
+
+/* A list with guards at both ends, and a copy of all of it as it was before the call. */
+struct list {
+    uint64_t place[guard + most + guard], before[guard + most + guard];
+    size_t len;
+};
+
+/* A place of a number or a truth value between guards. */
+struct place {
+    uint64_t low, value, high;
+};
+struct flag {
+    uint64_t low;
+    bool value;
+    uint64_t high;
+};
+
+static struct list left, right, out;
+static struct place value[3];
+static uint64_t value_before[3];
+static struct flag flag;
+static bool flag_before;
+static const uint64_t low_guard = UINT64_C(0x6c6f772067756172), high_guard = UINT64_C(0x6869676820677561);
+
+static uint64_t *at(struct list *l)
+{
+    return l->place + guard;
+}
+
+/* What a list of that length is passed as: now and then NULL if it is empty. */
+static uint64_t *pass(struct list *l)
+{
+    return l->len == 0 && coin() ? NULL : at(l);
+}
+
+static void scramble(struct list *l, size_t len)
+{
+    for (size_t i = 0; i < guard + most + guard; i++)
+        l->place[i] = any();
+    l->len = len;
+}
+
+static void remember(struct list *l)
+{
+    for (size_t i = 0; i < guard + most + guard; i++)
+        l->before[i] = l->place[i];
+}
+
+static bool kept(const struct list *l, size_t from)
+{
+    for (size_t i = 0; i < guard + most + guard; i++)
+        if ((i < guard || i >= guard + from) && l->place[i] != l->before[i])
+            return false;
+    return true;
+}
+
+/* A place that holds what it should, its guards too. */
+static bool holds(const struct place *p, uint64_t wanted)
+{
+    return p->low == low_guard && p->value == wanted && p->high == high_guard;
+}
+
+static bool flag_holds(bool wanted)
+{
+    return flag.low == low_guard && flag.value == wanted && flag.high == high_guard;
+}
+
+/* Makes every place new: the lists are empty, the output has that much room. */
+static void fresh(size_t room)
+{
+    scramble(&left, 0);
+    scramble(&right, 0);
+    scramble(&out, room);
+    for (int i = 0; i < 3; i++) {
+        struct place p = {low_guard, any(), high_guard};
+        value[i] = p;
+    }
+    struct flag f = {low_guard, coin(), high_guard};
+    flag = f;
+}
+
+/* Called when all arguments stand, just before the call. */
+static void ready(void)
+{
+    remember(&left);
+    remember(&right);
+    remember(&out);
+    for (int i = 0; i < 3; i++)
+        value_before[i] = value[i].value;
+    flag_before = flag.value;
+}
+
+/* Whether the call did what the model says, and nothing else. */
+static bool agrees(uint64_t refusal, const struct answer *a)
+{
+    bool answered = a->refusal == GUDRENOSS_OK, good = refusal == a->refusal;
+    for (size_t i = 0; i < 3; i++)
+        good = good && holds(&value[i], answered && i < a->values ? a->value[i] : value_before[i]);
+    good = good && flag_holds(answered && a->has_flag ? a->flag : flag_before);
+    for (size_t i = 0; answered && i < a->len; i++)
+        good = good && at(&out)[i] == a->list[i];
+    return good && kept(&out, answered ? a->len : 0) && kept(&left, 0) && kept(&right, 0);
+}
+
+/* ---- Structured arguments --------------------------------------------------------------------------------------------------- */
+
+/* A word: mostly one of the family, or that with one symbol changed, or any numbers. */
+static void put_word(struct list *l, bool allowed)
+{
+    uint64_t step = 1 + below(4), symbol = below(3), size = below(10);
+    l->len = size < 7 ? below(7) : size < 9 ? below(40) : below(70);
+    for (size_t i = 0; i < l->len; i++) {
+        at(l)[i] = symbol;
+        symbol += allowed ? below(step) : 1 + below(step);
+    }
+    if (l->len > 0 && below(4) == 0)
+        at(l)[below(l->len)] = number(64);
+    if (below(16) == 0)
+        for (size_t i = 0; i < l->len; i++)
+            at(l)[i] = number(64);
+}
+
+static void swap(uint64_t *a, uint64_t *b)
+{
+    uint64_t held = *a;
+    *a = *b;
+    *b = held;
+}
+
+static void shuffle(uint64_t *places, size_t len)
+{
+    for (size_t i = len; i > 1; i--)
+        swap(&places[i - 1], &places[below(i)]);
+}
+
+/* A permutation: mostly a good one, with anything past its length. */
+static gudrenoss_permutation permutation(uint64_t len)
+{
+    gudrenoss_permutation p;
+    for (size_t i = 0; i < 20; i++)
+        p.entries[i] = i < len ? i : number(20);
+    p.len = len;
+    if (len <= 20 && below(16) != 0)
+        shuffle(p.entries, len);
+    if (len <= 20 && len > 1 && below(8) == 0)
+        for (size_t i = 0; i < len; i++)
+            p.entries[i] = len - 1 - i;
+    if (len > 0 && below(8) == 0)
+        p.entries[below(len < 20 ? len : 20)] = number(20);
+    return p;
+}
+
+static uint64_t permutation_len(void)
+{
+    return below(32) == 0 ? number(20) : below(2) ? below(6) : below(22);
+}
+
+/* A shape: mostly small radices, sometimes a zero or a large one. */
+static void put_radices(struct list *l)
+{
+    l->len = below(12) == 0 ? below(20) : below(2) ? below(5) : below(17);
+    bool wild = below(4) == 0;
+    for (size_t i = 0; i < l->len; i++)
+        at(l)[i] = wild ? number(6) : below(40) == 0 ? 0 : 1 + below(9);
+}
+
+static uint64_t product(const struct list *l)
+{
+    uint64_t p = 1;
+    for (size_t i = 0; i < l->len; i++)
+        p *= at((struct list *)l)[i];
+    return p;
+}
+
+/* A digit word: mostly one whose rank is below the number of words. */
+static void digit_word(uint64_t *radix, uint64_t *degree, uint64_t *rank)
+{
+    *radix = below(3) == 0 ? number(10) : below(6);
+    *degree = below(16) == 0 ? number(64) : below(3) == 0 ? below(66) : below(9);
+    uint64_t words = 1;
+    for (uint64_t i = 0; i < *degree && i < 64; i++)
+        words *= *radix;
+    *rank = below(8) == 0 ? number(64) : words == 0 ? any() : below(8) == 0 ? words - 1 + below(2) : below(words);
+}
+
+static void put_exponents(struct list *l, size_t len)
+{
+    l->len = len;
+    for (size_t i = 0; i < l->len; i++)
+        at(l)[i] = below(40) == 0 ? number(64) : below(3) == 0 ? below(5) : below(2);
+}
+
+static size_t exponents_len(void)
+{
+    return below(8) == 0 ? below(70) : below(9);
+}
+
+static size_t room(void)
+{
+    return below(4) == 0 ? below(70) : below(2) ? below(8) : most;
+}
+
+/* ---- The calls -------------------------------------------------------------------------------------------------------------- */
+
+/* Each makes its arguments, calls, and hands back what the library gave with what the model says. */
+struct outcome {
+    uint64_t refusal;
+    struct answer model;
+};
+
+static struct outcome call_count(void)
+{
+    bool allowed = coin();
+    uint64_t n = number(64), k = number(64);
+    fresh(0);
+    ready();
+    return (struct outcome){gudrenoss_count(allowed, n, k, &value[0].value), model_count(allowed, n, k)};
+}
+
+static struct outcome call_pack(void)
+{
+    bool allowed = coin();
+    fresh(0);
+    put_word(&left, allowed);
+    ready();
+    return (struct outcome){
+        gudrenoss_pack(allowed, pass(&left), left.len, &value[0].value), model_pack(allowed, at(&left), left.len)};
+}
+
+static struct outcome call_unpack(void)
+{
+    bool allowed = coin();
+    uint64_t b = bits();
+    fresh(room());
+    ready();
+    return (struct outcome){
+        gudrenoss_unpack(allowed, b, pass(&out), out.len, &value[0].value), model_unpack(allowed, b, out.len)};
+}
+
+static struct outcome call_degree(void)
+{
+    bool allowed = coin();
+    uint64_t b = bits();
+    fresh(0);
+    ready();
+    return (struct outcome){gudrenoss_degree(allowed, b, &value[0].value), model_degree(allowed, b)};
+}
+
+static struct outcome call_symbol(void)
+{
+    bool allowed = coin();
+    uint64_t b = bits(), p = number(64);
+    fresh(0);
+    ready();
+    return (struct outcome){gudrenoss_symbol(allowed, b, p, &value[0].value), model_symbol(allowed, b, p)};
+}
+
+static struct outcome call_rank(void)
+{
+    bool allowed = coin();
+    fresh(0);
+    put_word(&left, allowed);
+    ready();
+    return (struct outcome){
+        gudrenoss_rank(allowed, pass(&left), left.len, &value[0].value), model_rank(allowed, at(&left), left.len)};
+}
+
+static struct outcome call_rank_of(void)
+{
+    bool allowed = coin();
+    uint64_t b = bits();
+    fresh(0);
+    ready();
+    return (struct outcome){gudrenoss_rank_of(allowed, b, &value[0].value), model_rank_of(allowed, b)};
+}
+
+/* A rank that is often below the count. */
+static uint64_t some_rank(bool allowed, uint64_t n, uint64_t k)
+{
+    struct answer a = model_count(allowed, n, k);
+    return a.refusal || a.value[0] == 0 || below(8) == 0 ? number(64) : below(a.value[0] + (below(8) == 0));
+}
+
+static struct outcome call_unrank(void)
+{
+    bool allowed = coin();
+    uint64_t n = number(64), k = number(64), r = some_rank(allowed, n, k);
+    fresh(room());
+    ready();
+    return (struct outcome){
+        gudrenoss_unrank(allowed, n, k, r, pass(&out), out.len, &value[0].value), model_unrank(allowed, n, k, r, out.len)};
+}
+
+static struct outcome call_unrank_over(void)
+{
+    bool allowed = coin();
+    uint64_t n = number(64), k = number(64), r = some_rank(allowed, n, k);
+    fresh(0);
+    ready();
+    return (struct outcome){
+        gudrenoss_unrank_over(allowed, n, k, r, &value[0].value), model_unrank_over(allowed, n, k, r)};
+}
+
+static struct outcome call_unrank_any(void)
+{
+    bool allowed = coin();
+    uint64_t k = number(64), r = some_rank(false, 64, k);
+    fresh(0);
+    ready();
+    return (struct outcome){gudrenoss_unrank_any(allowed, k, r, &value[0].value), model_unrank_any(allowed, k, r)};
+}
+
+static struct outcome call_successor(void)
+{
+    bool allowed = coin();
+    uint64_t b = bits();
+    fresh(0);
+    ready();
+    return (struct outcome){gudrenoss_successor(allowed, b, &value[0].value), model_successor(allowed, b)};
+}
+
+static struct outcome call_walk_start(void)
+{
+    bool allowed = coin();
+    uint64_t n = number(64), k = number(64);
+    fresh(0);
+    ready();
+    return (struct outcome){
+        gudrenoss_walk_start(allowed, n, k, &flag.value, &value[0].value, &value[1].value), model_walk_start(allowed, n, k)};
+}
+
+static struct outcome call_walk_step(void)
+{
+    bool allowed = coin();
+    fresh(0);
+    flag.value = below(8) != 0;
+    value[0].value = bits();
+    value[1].value = below(8) == 0 ? 0 : number(64);
+    ready();
+    struct answer a = model_walk_step(allowed, flag.value, value[0].value, value[1].value);
+    return (struct outcome){
+        gudrenoss_walk_step(allowed, &flag.value, &value[0].value, &value[1].value, &value[2].value), a};
+}
+
+static struct outcome call_canonicalise(void)
+{
+    bool allowed = coin();
+    fresh(0);
+    put_word(&left, allowed);
+    shuffle(at(&left), left.len);
+    ready();
+    return (struct outcome){gudrenoss_canonicalise(allowed, pass(&left), left.len, &flag.value, &value[0].value),
+        model_canonicalise(allowed, at(&left), left.len)};
+}
+
+static struct outcome call_merge(void)
+{
+    bool l = coin(), r = below(8) == 0 ? coin() : l;
+    uint64_t a = bits(), b = bits();
+    if (!l && below(4) != 0)
+        b &= ~a;
+    if (l && below(2) == 0) {
+        a >>= below(64);
+        b >>= below(64);
+    }
+    fresh(0);
+    ready();
+    return (struct outcome){gudrenoss_merge(l, a, r, b, &flag.value, &value[0].value), model_merge(l, a, r, b)};
+}
+
+static struct outcome call_delete(void)
+{
+    bool allowed = coin();
+    uint64_t b = bits(), p = below(2) ? number(64) : below(65);
+    fresh(0);
+    ready();
+    return (struct outcome){
+        gudrenoss_delete(allowed, b, p, &flag.value, &value[0].value, &value[1].value), model_delete(allowed, b, p)};
+}
+
+static struct outcome call_complement(void)
+{
+    bool allowed = below(8) == 0;
+    uint64_t b = bits(), n = below(2) ? number(64) : below(66);
+    if (n < 64 && below(4) != 0)
+        b &= ((uint64_t)1 << n) - 1;
+    fresh(0);
+    ready();
+    return (struct outcome){
+        gudrenoss_complement(allowed, b, n, &flag.value, &value[0].value), model_complement(allowed, b, n)};
+}
+
+static struct outcome call_stabilizer(void)
+{
+    bool allowed = below(4) != 0;
+    uint64_t b = bits();
+    fresh(0);
+    ready();
+    return (struct outcome){gudrenoss_stabilizer(allowed, b, &value[0].value), model_stabilizer(allowed, b)};
+}
+
+static struct outcome call_set_insert(void)
+{
+    uint64_t set = bits(), s = below(2) ? number(64) : below(64);
+    fresh(0);
+    ready();
+    return (struct outcome){gudrenoss_set_insert(set, s, &value[0].value), model_set_insert(set, s)};
+}
+
+static struct outcome call_set_contains(void)
+{
+    uint64_t set = bits(), s = below(2) ? number(64) : below(64);
+    fresh(0);
+    ready();
+    return (struct outcome){gudrenoss_set_contains(set, s, &flag.value), model_set_contains(set, s)};
+}
+
+static struct outcome call_set_position(void)
+{
+    uint64_t set = bits(), s = below(2) ? number(64) : below(64);
+    fresh(0);
+    ready();
+    return (struct outcome){gudrenoss_set_position(set, s, &value[0].value), model_set_position(set, s)};
+}
+
+static struct outcome call_set_select(void)
+{
+    uint64_t set = bits(), positions = bits() >> (below(2) ? 0 : below(64));
+    fresh(0);
+    ready();
+    return (struct outcome){gudrenoss_set_select(set, positions, &value[0].value), model_set_select(set, positions)};
+}
+
+static struct outcome call_permutation_image(void)
+{
+    gudrenoss_permutation p = permutation(permutation_len());
+    uint64_t i = number(20);
+    fresh(0);
+    ready();
+    return (struct outcome){gudrenoss_permutation_image(p, i, &value[0].value), model_permutation_image(&p, i)};
+}
+
+static struct outcome call_permutation_inverse(void)
+{
+    gudrenoss_permutation p = permutation(permutation_len());
+    fresh(20);
+    ready();
+    return (struct outcome){gudrenoss_permutation_inverse(p, at(&out)), model_permutation_inverse(&p)};
+}
+
+static struct outcome call_permutation_compose(void)
+{
+    uint64_t len = permutation_len();
+    gudrenoss_permutation p = permutation(len), q = permutation(below(16) == 0 ? permutation_len() : len);
+    fresh(20);
+    ready();
+    return (struct outcome){gudrenoss_permutation_compose(p, q, at(&out)), model_permutation_compose(&p, &q)};
+}
+
+static struct outcome call_permutation_sign(void)
+{
+    gudrenoss_permutation p = permutation(permutation_len());
+    fresh(0);
+    ready();
+    return (struct outcome){gudrenoss_permutation_sign(p, &flag.value), model_permutation_sign(&p)};
+}
+
+static struct outcome call_permutation_rank(void)
+{
+    gudrenoss_permutation p = permutation(permutation_len());
+    fresh(0);
+    ready();
+    return (struct outcome){gudrenoss_permutation_rank(p, &value[0].value), model_permutation_rank(&p)};
+}
+
+static struct outcome call_permutation_unrank(void)
+{
+    uint64_t n = permutation_len(), r = below(4) == 0 ? number(24) : n < 6 ? below(130) : any() >> 3;
+    if (n <= 20)
+        for (uint64_t i = n; i < 20 && below(8) != 0; i++)
+            r /= i + 1;
+    fresh(20);
+    ready();
+    return (struct outcome){gudrenoss_permutation_unrank(n, r, at(&out)), model_permutation_unrank(n, r)};
+}
+
+static struct outcome call_permutation_successor(void)
+{
+    gudrenoss_permutation p = permutation(permutation_len());
+    fresh(20);
+    ready();
+    return (struct outcome){gudrenoss_permutation_successor(p, at(&out)), model_permutation_successor(&p)};
+}
+
+static struct outcome call_shape_count(void)
+{
+    fresh(0);
+    put_radices(&left);
+    ready();
+    return (struct outcome){
+        gudrenoss_shape_count(pass(&left), left.len, &value[0].value), model_shape_count(at(&left), left.len)};
+}
+
+static struct outcome call_shape_strides(void)
+{
+    fresh(room());
+    put_radices(&left);
+    ready();
+    return (struct outcome){gudrenoss_shape_strides(pass(&left), left.len, pass(&out), out.len, &value[0].value),
+        model_shape_strides(at(&left), left.len, out.len)};
+}
+
+static struct outcome call_shape_linearize(void)
+{
+    fresh(0);
+    put_radices(&left);
+    right.len = below(16) == 0 ? below(20) : left.len;
+    for (size_t i = 0; i < right.len; i++)
+        at(&right)[i] = i >= left.len || at(&left)[i] == 0 || below(64) == 0 ? number(6) : below(at(&left)[i]);
+    ready();
+    return (struct outcome){
+        gudrenoss_shape_linearize(pass(&left), left.len, pass(&right), right.len, &value[0].value),
+        model_shape_linearize(at(&left), left.len, at(&right), right.len)};
+}
+
+static struct outcome call_shape_delinearize(void)
+{
+    fresh(room());
+    put_radices(&left);
+    uint64_t p = product(&left), x = p == 0 || below(8) == 0 ? number(6) : below(8) == 0 ? p - 1 + below(2) : below(p);
+    ready();
+    return (struct outcome){gudrenoss_shape_delinearize(pass(&left), left.len, x, pass(&out), out.len, &value[0].value),
+        model_shape_delinearize(at(&left), left.len, x, out.len)};
+}
+
+static struct outcome call_shape_corner(void)
+{
+    fresh(0);
+    put_radices(&left);
+    uint64_t axes = below(4) == 0 ? bits() : left.len == 0 ? below(2) : any() & (((uint64_t)1 << left.len) - 1);
+    ready();
+    return (struct outcome){gudrenoss_shape_corner(pass(&left), left.len, axes, &value[0].value),
+        model_shape_corner(at(&left), left.len, axes)};
+}
+
+static struct outcome call_digits_count(void)
+{
+    uint64_t radix = number(10), degree = number(64);
+    fresh(0);
+    ready();
+    return (struct outcome){gudrenoss_digits_count(radix, degree, &value[0].value), model_digits_count(radix, degree)};
+}
+
+static struct outcome call_digits_from_symbols(void)
+{
+    uint64_t radix = number(10);
+    fresh(0);
+    left.len = below(3) == 0 ? below(70) : below(9);
+    for (size_t i = 0; i < left.len; i++)
+        at(&left)[i] = radix == 0 || below(64) == 0 ? number(10) : below(radix);
+    ready();
+    return (struct outcome){
+        gudrenoss_digits_from_symbols(radix, pass(&left), left.len, &value[0].value, &value[1].value),
+        model_digits_from_symbols(radix, at(&left), left.len)};
+}
+
+static struct outcome call_digits_symbols(void)
+{
+    uint64_t radix, degree, rank;
+    digit_word(&radix, &degree, &rank);
+    fresh(room());
+    ready();
+    return (struct outcome){gudrenoss_digits_symbols(radix, degree, rank, pass(&out), out.len, &value[0].value),
+        model_digits_symbols(radix, degree, rank, out.len)};
+}
+
+static struct outcome call_digits_symbol(void)
+{
+    uint64_t radix, degree, rank, p = number(64);
+    digit_word(&radix, &degree, &rank);
+    fresh(0);
+    ready();
+    return (struct outcome){
+        gudrenoss_digits_symbol(radix, degree, rank, p, &value[0].value), model_digits_symbol(radix, degree, rank, p)};
+}
+
+static struct outcome call_digits_multiplicity(void)
+{
+    uint64_t radix, degree, rank, s = number(10);
+    digit_word(&radix, &degree, &rank);
+    fresh(0);
+    ready();
+    return (struct outcome){gudrenoss_digits_multiplicity(radix, degree, rank, s, &value[0].value),
+        model_digits_multiplicity(radix, degree, rank, s)};
+}
+
+static struct outcome call_digits_stabilizer(void)
+{
+    uint64_t radix, degree, rank;
+    digit_word(&radix, &degree, &rank);
+    fresh(0);
+    ready();
+    return (struct outcome){
+        gudrenoss_digits_stabilizer(radix, degree, rank, &value[0].value), model_digits_stabilizer(radix, degree, rank)};
+}
+
+static struct outcome call_digits_concat(void)
+{
+    uint64_t radix, degree, rank, other_radix, other_degree, other_rank;
+    digit_word(&radix, &degree, &rank);
+    do
+        digit_word(&other_radix, &other_degree, &other_rank);
+    while (other_radix != radix && radix < 6 && below(32) != 0);
+    fresh(0);
+    ready();
+    return (struct outcome){gudrenoss_digits_concat(radix, degree, rank, other_radix, other_degree, other_rank,
+                                &value[0].value, &value[1].value),
+        model_digits_concat(radix, degree, rank, other_radix, other_degree, other_rank)};
+}
+
+static struct outcome call_digits_delete(void)
+{
+    uint64_t radix, degree, rank, p = number(64);
+    digit_word(&radix, &degree, &rank);
+    fresh(0);
+    ready();
+    return (struct outcome){gudrenoss_digits_delete(radix, degree, rank, p, &value[0].value, &value[1].value),
+        model_digits_delete(radix, degree, rank, p)};
+}
+
+static struct outcome call_exponents_word(void)
+{
+    fresh(room());
+    put_exponents(&left, exponents_len());
+    ready();
+    return (struct outcome){gudrenoss_exponents_word(pass(&left), left.len, pass(&out), out.len, &value[0].value),
+        model_exponents_word(at(&left), left.len, out.len)};
+}
+
+static struct outcome call_exponents_from_word(void)
+{
+    uint64_t n = number(64);
+    fresh(room());
+    left.len = below(4) == 0 ? below(70) : below(9);
+    for (size_t i = 0; i < left.len; i++)
+        at(&left)[i] = n == 0 || below(64) == 0 ? number(64) : below(n);
+    ready();
+    return (struct outcome){
+        gudrenoss_exponents_from_word(n, pass(&left), left.len, pass(&out), out.len, &value[0].value),
+        model_exponents_from_word(n, at(&left), left.len, out.len)};
+}
+
+static struct outcome call_exponents_rank(void)
+{
+    fresh(0);
+    put_exponents(&left, exponents_len());
+    ready();
+    return (struct outcome){
+        gudrenoss_exponents_rank(pass(&left), left.len, &value[0].value), model_exponents_rank(at(&left), left.len)};
+}
+
+static struct outcome call_exponents_from_rank(void)
+{
+    uint64_t n = number(64), k = number(64), r = some_rank(true, n, k);
+    fresh(room());
+    ready();
+    return (struct outcome){gudrenoss_exponents_from_rank(n, k, r, pass(&out), out.len, &value[0].value),
+        model_exponents_from_rank(n, k, r, out.len)};
+}
+
+static struct outcome call_exponents_add(void)
+{
+    size_t len = exponents_len();
+    fresh(room());
+    put_exponents(&left, len);
+    put_exponents(&right, below(16) == 0 ? exponents_len() : len);
+    ready();
+    return (struct outcome){
+        gudrenoss_exponents_add(pass(&left), left.len, pass(&right), right.len, pass(&out), out.len, &value[0].value),
+        model_exponents_add(at(&left), left.len, at(&right), right.len, out.len)};
+}
+
+/* ---- The run ---------------------------------------------------------------------------------------------------------------- */
+
+struct target {
+    const char *name;
+    struct outcome (*call)(void);
+    uint64_t answers, refusals, broken;
+};
+
+#define TARGET(name) {#name, call_##name, 0, 0, 0}
+
+static struct target targets[] = {
+    TARGET(count), TARGET(pack), TARGET(unpack), TARGET(degree), TARGET(symbol), TARGET(rank), TARGET(rank_of),
+    TARGET(unrank), TARGET(unrank_over), TARGET(unrank_any), TARGET(successor), TARGET(walk_start), TARGET(walk_step),
+    TARGET(canonicalise), TARGET(merge), TARGET(delete), TARGET(complement), TARGET(stabilizer),
+    TARGET(set_insert), TARGET(set_contains), TARGET(set_position), TARGET(set_select),
+    TARGET(permutation_image), TARGET(permutation_inverse), TARGET(permutation_compose), TARGET(permutation_sign),
+    TARGET(permutation_rank), TARGET(permutation_unrank), TARGET(permutation_successor),
+    TARGET(shape_count), TARGET(shape_strides), TARGET(shape_linearize), TARGET(shape_delinearize), TARGET(shape_corner),
+    TARGET(digits_count), TARGET(digits_from_symbols), TARGET(digits_symbols), TARGET(digits_symbol),
+    TARGET(digits_multiplicity), TARGET(digits_stabilizer), TARGET(digits_concat), TARGET(digits_delete),
+    TARGET(exponents_word), TARGET(exponents_from_word), TARGET(exponents_rank), TARGET(exponents_from_rank),
+    TARGET(exponents_add),
+};
+
+/* The decimal number in text, or 0 where it is none. */
+static uint64_t parse(const char *text)
+{
+    uint64_t n = 0;
+    for (; *text >= '0' && *text <= '9'; text++)
+        n = 10 * n + (uint64_t)(*text - '0');
+    return *text == '\0' ? n : 0;
+}
+
+static void print_grouped(uint64_t n)
+{
+    if (n >= 1000) {
+        print_grouped(n / 1000);
+        printf(",%03u", (unsigned)(n % 1000));
+    } else {
+        printf("%u", (unsigned)n);
+    }
+}
+
+/* One call, from a seed of its own, so that a broken one can be made again. */
+static void run(struct target *t, uint64_t seed)
+{
+    state = seed;
+    struct outcome o = t->call();
+    if (agrees(o.refusal, &o.model)) {
+        if (o.refusal == GUDRENOSS_OK)
+            t->answers++;
+        else
+            t->refusals++;
+    } else if (t->broken++ == 0) {
+        printf("%s: broken at seed %llu: refusal %u, the model's %u\n", t->name, (unsigned long long)seed,
+            (unsigned)o.refusal, (unsigned)o.model.refusal);
+    }
+}
+
+int main(int argc, char **argv)
+{
+    uint64_t calls = argc > 1 ? parse(argv[1]) : 100000, seed = argc > 2 ? parse(argv[2]) : 1, broken = 0;
+    const size_t many = sizeof targets / sizeof *targets;
+    if (argc > 3 || calls == 0) {
+        printf("usage: fuzz CALLS [SEED]\n");
+        return 2;
+    }
+    for (uint64_t i = 0; i < calls; i++) {
+        state = seed + i;
+        run(&targets[i % many], any());
+    }
+    for (size_t i = 0; i < many; i++) {
+        const struct target *t = &targets[i];
+        printf("%-24s %10llu calls %10llu answers %10llu refusals\n", t->name,
+            (unsigned long long)(t->answers + t->refusals + t->broken), (unsigned long long)t->answers,
+            (unsigned long long)t->refusals);
+        broken += t->broken;
+    }
+    print_grouped(calls);
+    printf(" calls, ");
+    print_grouped(broken);
+    printf(" broken\n");
+    return broken > 0;
+}

@@ -1,0 +1,73 @@
+/* A second account of every rule of docs/RULES.md, in plain C: words are lists, sets are lists of members, products are formed in
+ * 128 bits, and small ranks are found by listing all words. It shares no code with the library, and is written for clearness. */
+#ifndef MODEL_H
+#define MODEL_H
+
+#include <gudrenoss.h>
+
+/* What a call must come to: the refusal, or what its places then hold, in the order of the parameters. */
+struct answer {
+    uint64_t refusal;
+    bool has_flag, flag;
+    size_t values;
+    uint64_t value[3];
+    size_t len;
+    uint64_t list[64];
+};
+
+struct answer model_count(bool allowed, uint64_t n, uint64_t k);
+struct answer model_pack(bool allowed, const uint64_t *word, size_t len);
+struct answer model_unpack(bool allowed, uint64_t bits, size_t room);
+struct answer model_degree(bool allowed, uint64_t bits);
+struct answer model_symbol(bool allowed, uint64_t bits, uint64_t p);
+struct answer model_rank(bool allowed, const uint64_t *word, size_t len);
+struct answer model_rank_of(bool allowed, uint64_t bits);
+struct answer model_unrank(bool allowed, uint64_t n, uint64_t k, uint64_t r, size_t room);
+struct answer model_unrank_over(bool allowed, uint64_t n, uint64_t k, uint64_t r);
+struct answer model_unrank_any(bool allowed, uint64_t k, uint64_t r);
+struct answer model_successor(bool allowed, uint64_t bits);
+struct answer model_walk_start(bool allowed, uint64_t n, uint64_t k);
+struct answer model_walk_step(bool allowed, bool standing, uint64_t at, uint64_t remaining);
+
+struct answer model_canonicalise(bool allowed, const uint64_t *word, size_t len);
+struct answer model_merge(bool left_allowed, uint64_t left, bool right_allowed, uint64_t right);
+struct answer model_delete(bool allowed, uint64_t bits, uint64_t p);
+struct answer model_complement(bool allowed, uint64_t bits, uint64_t n);
+struct answer model_stabilizer(bool allowed, uint64_t bits);
+
+struct answer model_set_insert(uint64_t set, uint64_t s);
+struct answer model_set_contains(uint64_t set, uint64_t s);
+struct answer model_set_position(uint64_t set, uint64_t s);
+struct answer model_set_select(uint64_t set, uint64_t positions);
+
+struct answer model_permutation_image(const gudrenoss_permutation *p, uint64_t i);
+struct answer model_permutation_inverse(const gudrenoss_permutation *p);
+struct answer model_permutation_compose(const gudrenoss_permutation *p, const gudrenoss_permutation *q);
+struct answer model_permutation_sign(const gudrenoss_permutation *p);
+struct answer model_permutation_rank(const gudrenoss_permutation *p);
+struct answer model_permutation_unrank(uint64_t n, uint64_t r);
+struct answer model_permutation_successor(const gudrenoss_permutation *p);
+
+struct answer model_shape_count(const uint64_t *radices, size_t axes);
+struct answer model_shape_strides(const uint64_t *radices, size_t axes, size_t room);
+struct answer model_shape_linearize(const uint64_t *radices, size_t axes, const uint64_t *digits, size_t len);
+struct answer model_shape_delinearize(const uint64_t *radices, size_t axes, uint64_t number, size_t room);
+struct answer model_shape_corner(const uint64_t *radices, size_t axes, uint64_t chosen);
+
+struct answer model_digits_count(uint64_t radix, uint64_t degree);
+struct answer model_digits_from_symbols(uint64_t radix, const uint64_t *symbols, size_t len);
+struct answer model_digits_symbols(uint64_t radix, uint64_t degree, uint64_t rank, size_t room);
+struct answer model_digits_symbol(uint64_t radix, uint64_t degree, uint64_t rank, uint64_t p);
+struct answer model_digits_multiplicity(uint64_t radix, uint64_t degree, uint64_t rank, uint64_t s);
+struct answer model_digits_stabilizer(uint64_t radix, uint64_t degree, uint64_t rank);
+struct answer model_digits_concat(uint64_t left_radix, uint64_t left_degree, uint64_t left_rank, uint64_t right_radix,
+    uint64_t right_degree, uint64_t right_rank);
+struct answer model_digits_delete(uint64_t radix, uint64_t degree, uint64_t rank, uint64_t p);
+
+struct answer model_exponents_word(const uint64_t *entries, size_t len, size_t room);
+struct answer model_exponents_from_word(uint64_t n, const uint64_t *word, size_t len, size_t room);
+struct answer model_exponents_rank(const uint64_t *entries, size_t len);
+struct answer model_exponents_from_rank(uint64_t n, uint64_t k, uint64_t r, size_t room);
+struct answer model_exponents_add(const uint64_t *left, size_t left_len, const uint64_t *right, size_t right_len, size_t room);
+
+#endif
