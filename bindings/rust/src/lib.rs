@@ -1,0 +1,52 @@
+//! Gudrenoss: proved term numbering for tank gauging.
+//!
+//! Safe calls of the library behind `include/gudrenoss.h`, whose every function is proved to do what `docs/RULES.md` says, for all
+//! inputs. Nothing here allocates. A call gives its answer or the [`Refusal`] that names why there is none; what is never refused
+//! gives a plain value. Numbers are `u64` throughout.
+//!
+//! | here | what it is |
+//! |---|---|
+//! | [`Repetition`] | the two families of words: subsets and multisets; counting, ranking and unranking of words |
+//! | [`MonoIndex`], [`MonoIndices`] | a word of a family as 64 bits; a walk through all words of a degree |
+//! | [`Combination`] | a set of symbols below 64 |
+//! | [`Permutation`] | a permutation of up to twenty entries |
+//! | [`Radix`], [`Word`] | shapes, and words of digits over one radix |
+//! | [`Composition`] | a list of exponents |
+//!
+//! The names are those of the Rust crate `multiindex` wherever the calls are the same.
+//!
+//! ```
+//! use gudrenoss::{MonoIndex, Refusal, Repetition};
+//!
+//! // Over three quantities there are 6 terms of degree 2, and the product of quantity 0 and quantity 2 is number 3.
+//! assert_eq!(Repetition::Allowed.count(3, 2)?, 6);
+//! assert_eq!(Repetition::Allowed.rank(&[0, 2])?, 3);
+//! assert_eq!(Repetition::Forbidden.rank(&[2, 2]), Err(Refusal::NotMonotone));
+//!
+//! let words: Vec<Vec<u64>> = MonoIndex::all(Repetition::Allowed, 3, 2)?.map(|i| i.word().to_vec()).collect();
+//! assert_eq!(words, [[0, 0], [0, 1], [1, 1], [0, 2], [1, 2], [2, 2]]);
+//! # Ok::<(), Refusal>(())
+//! ```
+#![no_std]
+#![deny(missing_docs)]
+#![deny(unsafe_code)]
+
+mod cartesian;
+mod combination;
+mod composition;
+mod monotone;
+mod permutation;
+mod refusal;
+mod sign;
+mod symbols;
+#[allow(unsafe_code)]
+mod sys;
+
+pub use cartesian::{Radix, Word};
+pub use combination::Combination;
+pub use composition::Composition;
+pub use monotone::{MonoIndex, MonoIndices, Repetition};
+pub use permutation::Permutation;
+pub use refusal::Refusal;
+pub use sign::Sign;
+pub use symbols::Symbols;

@@ -1,0 +1,132 @@
+//! The functions of `include/gudrenoss.h`, and all the unsafe code there is.
+//!
+//! A reference is a pointer that C may write through, so the functions without a slice are safe as they stand. A slice crosses as a
+//! pointer and a length, which only the functions at the end take apart. Rust's own rule for references gives what the header asks:
+//! places that are written overlap nothing else. The library keeps no pointer, has no state, and reads and writes no place outside
+//! the lengths it is given (proved, see `docs/PROMISES.md`).
+
+use crate::Refusal;
+
+/// The record of a permutation, as C has it.
+#[repr(C)]
+#[derive(Clone, Copy)]
+pub struct Record {
+    pub entries: [u64; 20],
+    pub len: u64,
+}
+
+unsafe extern "C" {
+    pub safe fn gudrenoss_count(allowed: bool, n: u64, k: u64, count: &mut u64) -> u64;
+    pub safe fn gudrenoss_degree(allowed: bool, bits: u64, degree: &mut u64) -> u64;
+    pub safe fn gudrenoss_symbol(allowed: bool, bits: u64, p: u64, symbol: &mut u64) -> u64;
+    pub safe fn gudrenoss_rank_of(allowed: bool, bits: u64, rank: &mut u64) -> u64;
+    pub safe fn gudrenoss_unrank_over(allowed: bool, n: u64, k: u64, r: u64, bits: &mut u64) -> u64;
+    pub safe fn gudrenoss_unrank_any(allowed: bool, k: u64, r: u64, bits: &mut u64) -> u64;
+    pub safe fn gudrenoss_successor(allowed: bool, bits: u64, next: &mut u64) -> u64;
+    pub safe fn gudrenoss_walk_start(
+        allowed: bool,
+        n: u64,
+        k: u64,
+        standing: &mut bool,
+        at: &mut u64,
+        remaining: &mut u64,
+    ) -> u64;
+    pub safe fn gudrenoss_walk_step(allowed: bool, standing: &mut bool, at: &mut u64, remaining: &mut u64, bits: &mut u64)
+        -> u64;
+
+    pub safe fn gudrenoss_merge(
+        left_allowed: bool,
+        left_bits: u64,
+        right_allowed: bool,
+        right_bits: u64,
+        minus: &mut bool,
+        bits: &mut u64,
+    ) -> u64;
+    pub safe fn gudrenoss_delete(allowed: bool, bits: u64, p: u64, minus: &mut bool, symbol: &mut u64, rest: &mut u64) -> u64;
+    pub safe fn gudrenoss_complement(allowed: bool, bits: u64, n: u64, minus: &mut bool, rest: &mut u64) -> u64;
+    pub safe fn gudrenoss_stabilizer(allowed: bool, bits: u64, stabilizer: &mut u64) -> u64;
+
+    pub safe fn gudrenoss_set_insert(set: u64, s: u64, with: &mut u64) -> u64;
+    pub safe fn gudrenoss_set_contains(set: u64, s: u64, contains: &mut bool) -> u64;
+    pub safe fn gudrenoss_set_position(set: u64, s: u64, position: &mut u64) -> u64;
+    pub safe fn gudrenoss_set_select(set: u64, positions: u64, selected: &mut u64) -> u64;
+
+    pub safe fn gudrenoss_permutation_image(p: Record, i: u64, entry: &mut u64) -> u64;
+    pub safe fn gudrenoss_permutation_inverse(p: Record, entries: &mut [u64; 20]) -> u64;
+    pub safe fn gudrenoss_permutation_compose(p: Record, q: Record, entries: &mut [u64; 20]) -> u64;
+    pub safe fn gudrenoss_permutation_sign(p: Record, minus: &mut bool) -> u64;
+    pub safe fn gudrenoss_permutation_rank(p: Record, rank: &mut u64) -> u64;
+    pub safe fn gudrenoss_permutation_unrank(n: u64, r: u64, entries: &mut [u64; 20]) -> u64;
+    pub safe fn gudrenoss_permutation_successor(p: Record, entries: &mut [u64; 20]) -> u64;
+
+    pub safe fn gudrenoss_digits_count(radix: u64, degree: u64, count: &mut u64) -> u64;
+    pub safe fn gudrenoss_digits_symbol(radix: u64, degree: u64, rank: u64, p: u64, symbol: &mut u64) -> u64;
+    pub safe fn gudrenoss_digits_multiplicity(radix: u64, degree: u64, rank: u64, s: u64, multiplicity: &mut u64) -> u64;
+    pub safe fn gudrenoss_digits_stabilizer(radix: u64, degree: u64, rank: u64, stabilizer: &mut u64) -> u64;
+    pub safe fn gudrenoss_digits_concat(
+        left_radix: u64,
+        left_degree: u64,
+        left_rank: u64,
+        right_radix: u64,
+        right_degree: u64,
+        right_rank: u64,
+        degree: &mut u64,
+        rank: &mut u64,
+    ) -> u64;
+    pub safe fn gudrenoss_digits_delete(radix: u64, degree: u64, rank: u64, p: u64, symbol: &mut u64, rest: &mut u64) -> u64;
+}
+
+/// A function with slices: its declaration with the slices taken apart, and a safe function that does so. `[xs]` is a slice that is
+/// read, `{xs}` one that is filled.
+macro_rules! with_slices {
+    ($(fn $name:ident($($parameter:tt $(: $kind:ty)?),*);)*) => {
+        $(with_slices!(@munch $name () () () $($parameter $(: $kind)?,)*);)*
+    };
+    (@munch $name:ident ($($c:tt)*) ($($safe:tt)*) ($($passed:tt)*) [$xs:ident], $($rest:tt)*) => {
+        with_slices!(@munch $name ($($c)* $xs: *const u64, _: usize,) ($($safe)* $xs: &[u64],)
+            ($($passed)* $xs.as_ptr(), $xs.len(),) $($rest)*);
+    };
+    (@munch $name:ident ($($c:tt)*) ($($safe:tt)*) ($($passed:tt)*) {$xs:ident}, $($rest:tt)*) => {
+        with_slices!(@munch $name ($($c)* $xs: *mut u64, _: usize,) ($($safe)* $xs: &mut [u64],)
+            ($($passed)* $xs.as_mut_ptr(), $xs.len(),) $($rest)*);
+    };
+    (@munch $name:ident ($($c:tt)*) ($($safe:tt)*) ($($passed:tt)*) $x:ident: $kind:ty, $($rest:tt)*) => {
+        with_slices!(@munch $name ($($c)* $x: $kind,) ($($safe)* $x: $kind,) ($($passed)* $x,) $($rest)*);
+    };
+    (@munch $name:ident ($($c:tt)*) ($($safe:tt)*) ($($passed:tt)*)) => {
+        pub fn $name($($safe)*) -> u64 {
+            unsafe extern "C" {
+                fn $name($($c)*) -> u64;
+            }
+            // SAFETY: each pointer comes from a slice of the length that is passed with it.
+            unsafe { $name($($passed)*) }
+        }
+    };
+}
+
+with_slices! {
+    fn gudrenoss_pack(allowed: bool, [word], bits: &mut u64);
+    fn gudrenoss_unpack(allowed: bool, bits: u64, {word}, written: &mut u64);
+    fn gudrenoss_rank(allowed: bool, [word], rank: &mut u64);
+    fn gudrenoss_unrank(allowed: bool, n: u64, k: u64, r: u64, {word}, written: &mut u64);
+    fn gudrenoss_canonicalise(allowed: bool, [word], minus: &mut bool, bits: &mut u64);
+    fn gudrenoss_shape_count([radices], count: &mut u64);
+    fn gudrenoss_shape_strides([radices], {strides}, written: &mut u64);
+    fn gudrenoss_shape_linearize([radices], [digits], number: &mut u64);
+    fn gudrenoss_shape_delinearize([radices], number: u64, {digits}, written: &mut u64);
+    fn gudrenoss_shape_corner([radices], axes: u64, offset: &mut u64);
+    fn gudrenoss_digits_from_symbols(radix: u64, [symbols], degree: &mut u64, rank: &mut u64);
+    fn gudrenoss_digits_symbols(radix: u64, degree: u64, rank: u64, {symbols}, written: &mut u64);
+    fn gudrenoss_exponents_word([entries], {word}, written: &mut u64);
+    fn gudrenoss_exponents_from_word(n: u64, [word], {entries}, written: &mut u64);
+    fn gudrenoss_exponents_rank([entries], rank: &mut u64);
+    fn gudrenoss_exponents_from_rank(n: u64, k: u64, r: u64, {entries}, written: &mut u64);
+    fn gudrenoss_exponents_add([left], [right], {entries}, written: &mut u64);
+}
+
+/// The number that a call writes.
+pub fn number(call: impl FnOnce(&mut u64) -> u64) -> Result<u64, Refusal> {
+    let mut value = 0;
+    Refusal::judge(call(&mut value))?;
+    Ok(value)
+}

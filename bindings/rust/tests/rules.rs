@@ -1,0 +1,287 @@
+//! The rules of docs/RULES.md through the bindings: its examples, its corners, and every refusal of every call.
+
+use gudrenoss::Repetition::{Allowed, Forbidden};
+use gudrenoss::{Combination, Composition, MonoIndex, Permutation, Radix, Refusal, Sign, Word};
+
+const TOP: u64 = u64::MAX;
+const HIGH_BIT: u64 = 1 << 63;
+
+fn set(bits: u64) -> MonoIndex {
+    MonoIndex::from_bits(Forbidden, bits)
+}
+
+fn multiset(bits: u64) -> MonoIndex {
+    MonoIndex::from_bits(Allowed, bits)
+}
+
+#[test]
+fn counts() {
+    assert_eq!(Forbidden.count(4, 2), Ok(6));
+    assert_eq!(Allowed.count(0, 0), Ok(1));
+    assert_eq!(Allowed.count(0, 3), Ok(0));
+    assert_eq!(Allowed.count(1, 64), Ok(1));
+    assert_eq!(Forbidden.count(64, 32), Ok(1832624140942590534));
+    assert_eq!(Allowed.count(1, 65), Err(Refusal::TooWide));
+    assert_eq!(Allowed.count(TOP, 2), Err(Refusal::TooWide));
+    assert_eq!(Forbidden.count(65, 0), Err(Refusal::TooWide));
+}
+
+#[test]
+fn words_and_ranks() {
+    assert_eq!(Forbidden.rank(&[1, 3]), Ok(4));
+    assert_eq!(Allowed.rank(&[1, 1]), Ok(2));
+    assert_eq!(Allowed.rank(&[]), Ok(0));
+    assert_eq!(Forbidden.rank(&[1, 1]), Err(Refusal::NotMonotone));
+    assert_eq!(Forbidden.rank(&[64]), Err(Refusal::TooWide));
+    assert_eq!(Allowed.rank(&[0; 65]), Err(Refusal::TooWide));
+    assert_eq!(Allowed.word_from_rank(3, 2, 3).unwrap(), [0, 2]);
+    assert_eq!(Forbidden.word_from_rank(9, 0, 0).unwrap(), []);
+    assert_eq!(Allowed.word_from_rank(2, 2, 3), Err(Refusal::NoSuchRank));
+    assert_eq!(Allowed.word_from_rank(2, 65, 0), Err(Refusal::TooWide));
+}
+
+#[test]
+fn indices() {
+    assert_eq!(MonoIndex::new(Allowed, &[1, 1, 2]), Ok(multiset(22)));
+    assert_eq!(MonoIndex::new(Forbidden, &[0, 2]), Ok(set(5)));
+    assert_eq!(MonoIndex::new(Allowed, &[2, 1]), Err(Refusal::NotMonotone));
+    assert_eq!(MonoIndex::new(Allowed, &[0, 63]), Err(Refusal::TooWide));
+    assert_eq!(multiset(25).word(), [0, 2, 2]);
+    assert_eq!(set(25).word(), [0, 3, 4]);
+    assert_eq!(set(TOP).word().len(), 64);
+    assert_eq!((set(TOP).degree(), set(0).degree()), (64, 0));
+    assert_eq!(multiset(25).repetition(), Allowed);
+    assert_eq!(multiset(25).shifted_bits(), 25);
+    assert_eq!(multiset(6).symbol(1), Ok(1));
+    assert_eq!(set(6).symbol(1), Ok(2));
+    assert_eq!(set(6).symbol(2), Err(Refusal::Outside));
+    assert_eq!((set(10).rank(), multiset(6).rank()), (4, 2));
+    assert_eq!(MonoIndex::from_rank(Allowed, 2, 3), Ok(multiset(9)));
+    assert_eq!(MonoIndex::from_rank(Forbidden, 1, 64), Err(Refusal::NoSuchRank));
+    assert_eq!(MonoIndex::from_rank(Forbidden, 65, 0), Err(Refusal::TooWide));
+    assert_eq!(MonoIndex::from_rank_over(Allowed, 3, 2, 3), Ok(multiset(9)));
+    assert_eq!(MonoIndex::from_rank_over(Allowed, 2, 2, 3), Err(Refusal::NoSuchRank));
+    assert_eq!(MonoIndex::from_rank_over(Allowed, 65, 0, 0), Err(Refusal::TooWide));
+    assert_eq!(set(3).colex_successor(), Ok(set(5)));
+    assert_eq!(set(HIGH_BIT >> 1).colex_successor(), Ok(set(HIGH_BIT)));
+    assert_eq!(set(HIGH_BIT).colex_successor(), Err(Refusal::Last));
+    assert_eq!(multiset(0).colex_successor(), Err(Refusal::Last));
+}
+
+#[test]
+fn walks() {
+    for (repetition, nsymbols, degree) in [
+        (Allowed, 3, 2),
+        (Forbidden, 6, 3),
+        (Allowed, 4, 0),
+        (Forbidden, 2, 3),
+        (Forbidden, 64, 63),
+    ] {
+        let mut walk = MonoIndex::all(repetition, nsymbols, degree).unwrap();
+        let count = repetition.count(nsymbols, degree).unwrap();
+        assert_eq!(walk.remaining(), count);
+        for rank in 0..count {
+            let index = walk.step().unwrap();
+            assert_eq!((index.rank(), index.degree(), index.repetition()), (rank, degree, repetition));
+            assert_eq!(walk.remaining(), count - rank - 1);
+        }
+        assert_eq!(walk.step(), Err(Refusal::Last));
+        assert_eq!(walk.next(), None);
+    }
+    assert_eq!(MonoIndex::all(Forbidden, 65, 1).map(|_| ()), Err(Refusal::TooWide));
+}
+
+#[test]
+fn signed_operations() {
+    assert_eq!(MonoIndex::from_word(Forbidden, &[2, 0]), Ok((Sign::Neg, set(5))));
+    assert_eq!(MonoIndex::from_word(Allowed, &[2, 0, 2]), Ok((Sign::Pos, multiset(25))));
+    assert_eq!(MonoIndex::from_word(Forbidden, &[64, 64]), Err(Refusal::Repeated));
+    assert_eq!(MonoIndex::from_word(Forbidden, &[64, 0]), Err(Refusal::TooWide));
+
+    assert_eq!(set(2).merge(set(1)), Ok((Sign::Neg, set(3))));
+    assert_eq!(multiset(9).merge(multiset(4)), Ok((Sign::Pos, multiset(25))));
+    assert_eq!(set(0).merge(multiset(0)), Err(Refusal::Family));
+    assert_eq!(set(3).merge(set(6)), Err(Refusal::Repeated));
+    assert_eq!(multiset(HIGH_BIT).merge(multiset(1)), Err(Refusal::TooWide));
+
+    assert_eq!(multiset(22).deletion(1), Ok((Sign::Pos, 1, multiset(10))));
+    assert_eq!(set(22).deletion(1), Ok((Sign::Neg, 2, set(18))));
+    assert_eq!(set(5 | HIGH_BIT).deletion(2), Ok((Sign::Pos, 63, set(5))));
+    assert_eq!(set(22).deletion(3), Err(Refusal::Outside));
+
+    assert_eq!(set(5).complement_signed(4), Ok((Sign::Neg, set(10))));
+    assert_eq!(multiset(0).complement_signed(65), Err(Refusal::Family));
+    assert_eq!(set(HIGH_BIT).complement_signed(65), Err(Refusal::TooWide));
+    assert_eq!(set(1).complement_signed(0), Err(Refusal::Outside));
+
+    assert_eq!(multiset(22).stabilizer(), Ok(2));
+    assert_eq!(set(TOP).stabilizer(), Ok(1));
+    assert_eq!(multiset(0x1fffff).stabilizer(), Err(Refusal::TooBig));
+}
+
+#[test]
+fn signs() {
+    assert_eq!(Sign::Neg * Sign::Neg, Sign::Pos);
+    assert_eq!(Sign::Pos * Sign::Neg, -Sign::Pos);
+    assert_eq!((Sign::Pos.as_i32(), Sign::Neg.as_i32()), (1, -1));
+    assert!(Sign::Pos.is_pos() && Sign::Neg.is_neg());
+    assert_eq!(format!("{}{}", Sign::Pos, Sign::Neg), "+-");
+}
+
+#[test]
+fn sets() {
+    let odd = Combination::from_bits(42);
+    assert_eq!(odd.inserted(0).map(Combination::bits), Ok(43));
+    assert_eq!(odd.inserted(1), Err(Refusal::Repeated));
+    assert_eq!(odd.inserted(64), Err(Refusal::Outside));
+    assert!(odd.contains(5) && !odd.contains(4) && !Combination::from_bits(TOP).contains(64));
+    assert_eq!(odd.position_of(5), Ok(2));
+    assert_eq!(odd.position_of(2), Err(Refusal::Outside));
+    assert_eq!(odd.select(Combination::from_bits(5)), Ok(Combination::from_bits(34)));
+    assert_eq!(odd.select(Combination::from_bits(8)), Err(Refusal::Outside));
+    assert_eq!(odd.rank(), 1 + 3 + 10);
+}
+
+#[test]
+fn permutations() {
+    let p = Permutation::new(&[2, 0, 1]);
+    let wide = Permutation::new(&[0; 21]);
+    let bad = Permutation::new(&[0, 0, 1]);
+    assert_eq!(p.apply(0), Ok(2));
+    assert_eq!(p.apply(3), Err(Refusal::Outside));
+    assert_eq!(p.inverse(), Ok(Permutation::new(&[1, 2, 0])));
+    assert_eq!(Permutation::new(&[1, 0, 2]).compose(&p), Ok(Permutation::new(&[2, 1, 0])));
+    assert_eq!(p.compose(&Permutation::new(&[0])), Err(Refusal::Shape));
+    assert_eq!(p.sign(), Ok(Sign::Pos));
+    assert_eq!(Permutation::new(&[0, 2, 1]).rank(), Ok(3));
+    assert_eq!(Permutation::from_rank(3, 0), Ok(Permutation::new(&[2, 1, 0])));
+    assert_eq!(Permutation::from_rank(3, 6), Err(Refusal::NoSuchRank));
+    assert_eq!(Permutation::from_rank(21, 0), Err(Refusal::TooWide));
+    assert_eq!(Permutation::new(&[0, 2, 1]).successor(), Ok(Permutation::new(&[1, 0, 2])));
+    assert_eq!(Permutation::new(&[0, 1, 2]).successor(), Err(Refusal::Last));
+    assert_eq!(Permutation::new(&[]).rank(), Ok(0));
+    assert!(Permutation::new(&[]).is_empty() && wide.len() == 21 && wide.parts().len() == 20);
+    assert_eq!(Permutation::new_checked(&[1, 0]), Ok(Permutation::new(&[1, 0])));
+    assert_eq!(Permutation::new_checked(&[0; 21]), Err(Refusal::TooWide));
+    assert_eq!(Permutation::new_checked(&[0, 0, 1]), Err(Refusal::NotAPermutation));
+    for (q, refusal) in [(wide, Refusal::TooWide), (bad, Refusal::NotAPermutation)] {
+        assert_eq!(q.apply(9), Err(refusal));
+        assert_eq!(q.inverse(), Err(refusal));
+        assert_eq!(q.compose(&q), Err(refusal));
+        assert_eq!(q.sign(), Err(refusal));
+        assert_eq!(q.rank(), Err(refusal));
+        assert_eq!(q.successor(), Err(refusal));
+    }
+}
+
+#[test]
+fn every_permutation_of_four() {
+    let mut p = Permutation::from_rank(4, 0).unwrap();
+    for rank in 0..24 {
+        assert_eq!(p.rank(), Ok(rank));
+        assert_eq!(Permutation::from_rank(4, rank), Ok(p));
+        assert_eq!(p.compose(&p.inverse().unwrap()), Ok(Permutation::new(&[0, 1, 2, 3])));
+        match p.successor() {
+            Ok(next) => p = next,
+            Err(refusal) => assert_eq!((rank, refusal), (23, Refusal::Last)),
+        }
+    }
+}
+
+#[test]
+fn shapes() {
+    let shape = Radix::new(&[2, 3, 4]);
+    let wide = Radix::new(&[1; 17]);
+    let big = Radix::new(&[1 << 40, 1 << 40, 0]);
+    assert_eq!((shape.naxes(), shape.radices()), (3, &[2, 3, 4][..]));
+    assert_eq!(shape.count(), Ok(24));
+    assert_eq!(Radix::new(&[]).count(), Ok(1));
+    assert_eq!(big.count(), Err(Refusal::TooBig));
+    assert_eq!(wide.count(), Err(Refusal::TooWide));
+    assert_eq!(shape.strides().unwrap(), [1, 2, 6]);
+    assert_eq!(big.strides(), Err(Refusal::TooBig));
+    assert_eq!(wide.strides(), Err(Refusal::TooWide));
+    assert_eq!(shape.linearize(&[1, 2, 3]), Ok(23));
+    assert_eq!(shape.linearize(&[1, 2]), Err(Refusal::Shape));
+    assert_eq!(shape.linearize(&[1, 3, 0]), Err(Refusal::Outside));
+    assert_eq!(Radix::new(&[1 << 40, 1 << 40]).linearize(&[0, 0]), Err(Refusal::TooBig));
+    assert_eq!(wide.linearize(&[0; 17]), Err(Refusal::TooWide));
+    assert_eq!(shape.delinearize(23).unwrap(), [1, 2, 3]);
+    assert_eq!(shape.delinearize(24), Err(Refusal::NoSuchRank));
+    assert_eq!(big.delinearize(0), Err(Refusal::TooBig));
+    assert_eq!(wide.delinearize(0), Err(Refusal::TooWide));
+    assert_eq!(shape.corner_offset(Combination::from_bits(6)), Ok(8));
+    assert_eq!(shape.corner_offset(Combination::from_bits(8)), Err(Refusal::Outside));
+    assert_eq!(big.corner_offset(Combination::from_bits(4)), Err(Refusal::TooBig));
+    assert_eq!(wide.corner_offset(Combination::from_bits(0)), Err(Refusal::TooWide));
+}
+
+#[test]
+fn digit_words() {
+    let word = Word::new(3, &[2, 0, 1]).unwrap();
+    assert_eq!((word.radix(), word.degree(), word.rank()), (3, 3, 11));
+    assert_eq!(Word::count(2, 63), Ok(HIGH_BIT));
+    assert_eq!(Word::count(2, 64), Err(Refusal::TooBig));
+    assert_eq!(Word::count(1, 65), Err(Refusal::TooWide));
+    assert_eq!(Word::new(3, &[3]), Err(Refusal::Outside));
+    assert_eq!(Word::new(2, &[1; 64]), Err(Refusal::TooBig));
+    assert_eq!(Word::new(1, &[0; 65]), Err(Refusal::TooWide));
+    assert_eq!(word.symbols().unwrap(), [2, 0, 1]);
+    assert_eq!(word.symbol(2), Ok(1));
+    assert_eq!(word.symbol(3), Err(Refusal::Outside));
+    assert_eq!(word.multiplicity(0), Ok(1));
+    assert_eq!(word.multiplicity(9), Ok(0));
+    assert_eq!(Word::from_rank(2, 4, 0).stabilizer(), Ok(24));
+    assert_eq!(Word::from_rank(1, 21, 0).stabilizer(), Err(Refusal::TooBig));
+    assert_eq!(
+        Word::new(3, &[2, 1]).unwrap().concat(Word::new(3, &[2]).unwrap()),
+        Word::new(3, &[2, 1, 2])
+    );
+    assert_eq!(Word::from_rank(2, 0, 0).concat(Word::from_rank(3, 0, 0)), Err(Refusal::Shape));
+    assert_eq!(
+        Word::from_rank(2, 40, 0).concat(Word::from_rank(2, 40, 0)),
+        Err(Refusal::TooWide)
+    );
+    assert_eq!(
+        Word::from_rank(2, 32, 0).concat(Word::from_rank(2, 32, 0)),
+        Err(Refusal::TooBig)
+    );
+    assert_eq!(word.deletion(1), Ok((0, Word::from_rank(3, 2, 5))));
+    assert_eq!(word.deletion(3), Err(Refusal::Outside));
+    assert_eq!(Word::from_rank(0, 0, 0).deletion(0), Err(Refusal::Outside));
+    for (bad, refusal) in [
+        (Word::from_rank(1, 65, 0), Refusal::TooWide),
+        (Word::from_rank(2, 64, 0), Refusal::TooBig),
+        (Word::from_rank(3, 3, 27), Refusal::NoSuchRank),
+    ] {
+        assert_eq!(bad.symbols(), Err(refusal));
+        assert_eq!(bad.symbol(0), Err(refusal));
+        assert_eq!(bad.multiplicity(0), Err(refusal));
+        assert_eq!(bad.stabilizer(), Err(refusal));
+        assert_eq!(bad.concat(word), Err(refusal));
+        assert_eq!(word.concat(bad), Err(refusal));
+        assert_eq!(bad.deletion(0), Err(refusal));
+    }
+}
+
+#[test]
+fn exponents() {
+    let term = Composition::new(&[1, 0, 2]).unwrap();
+    assert_eq!((term.parts(), term.nparts(), term.degree()), (&[1, 0, 2][..], 3, 3));
+    assert_eq!(term.word().unwrap(), [0, 2, 2]);
+    assert_eq!(Composition::from_word(3, &[2, 0, 2]), Ok(term));
+    assert_eq!(Composition::from_word(3, &[3]), Err(Refusal::Outside));
+    assert_eq!(Composition::from_word(64, &[0, 0]), Err(Refusal::TooWide));
+    assert_eq!(Composition::new(&[1, 0, 1]).unwrap().rank(), Ok(3));
+    assert_eq!(Composition::new(&[HIGH_BIT, HIGH_BIT]), Err(Refusal::TooWide));
+    assert_eq!(Composition::new(&[0; 65]), Err(Refusal::TooWide));
+    assert_eq!(Composition::from_rank(3, 2, 3), Composition::new(&[1, 0, 1]));
+    assert_eq!(Composition::from_rank(2, 2, 3), Err(Refusal::NoSuchRank));
+    assert_eq!(Composition::from_rank(2, 64, 0), Err(Refusal::TooWide));
+    assert_eq!(&term + &Composition::new(&[0, 3, 1]).unwrap(), Composition::new(&[1, 3, 3]));
+    assert_eq!(&term + &Composition::new(&[0]).unwrap(), Err(Refusal::Shape));
+    assert_eq!(
+        &Composition::new(&[33]).unwrap() + &Composition::new(&[32]).unwrap(),
+        Err(Refusal::TooWide)
+    );
+}
