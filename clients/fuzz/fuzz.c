@@ -1,6 +1,6 @@
 /* fuzz CALLS [SEED]: calls every function of the library with structured and random values, and compares what it gives back, every
  * place that it may write, every place around those, and every list that it reads with the model. It prints for each function how
- * many calls were answers and how many refusals; its last line is 'N calls, 0 broken', and its exit status then 0. */
+ * many calls were answers and how many refusals, by number; its last line is 'N calls, 0 broken', and its exit status then 0. */
 #include "model.h"
 
 #include <stdio.h>
@@ -743,10 +743,10 @@ static struct outcome call_exponents_add(void)
 struct target {
     const char *name;
     struct outcome (*call)(void);
-    uint64_t answers, refusals, broken;
+    uint64_t given[11], broken; /* how often each refusal was given, 0 for an answer */
 };
 
-#define TARGET(name) {#name, call_##name, 0, 0, 0}
+#define TARGET(name) {#name, call_##name, {0}, 0}
 
 static struct target targets[] = {
     TARGET(count), TARGET(pack), TARGET(unpack), TARGET(degree), TARGET(symbol), TARGET(rank), TARGET(rank_of),
@@ -787,14 +787,26 @@ static void run(struct target *t, uint64_t seed)
     state = seed;
     struct outcome o = t->call();
     if (agrees(o.refusal, &o.model)) {
-        if (o.refusal == GUDRENOSS_OK)
-            t->answers++;
-        else
-            t->refusals++;
+        t->given[o.refusal]++;
     } else if (t->broken++ == 0) {
         printf("%s: broken at seed %llu: refusal %u, the model's %u\n", t->name, (unsigned long long)seed,
             (unsigned)o.refusal, (unsigned)o.model.refusal);
     }
+}
+
+/* The line of a function: its calls, its answers, its refusals, and how many of each number these were. */
+static void print_target(const struct target *t)
+{
+    uint64_t refusals = 0;
+    for (int i = 1; i <= 10; i++)
+        refusals += t->given[i];
+    printf("%-22s %9llu calls %9llu answers %9llu refusals ", t->name,
+        (unsigned long long)(t->given[0] + refusals + t->broken), (unsigned long long)t->given[0],
+        (unsigned long long)refusals);
+    for (int i = 1; i <= 10; i++)
+        if (t->given[i] > 0)
+            printf(" %d: %llu", i, (unsigned long long)t->given[i]);
+    printf("\n");
 }
 
 int main(int argc, char **argv)
@@ -810,11 +822,8 @@ int main(int argc, char **argv)
         run(&targets[i % many], any());
     }
     for (size_t i = 0; i < many; i++) {
-        const struct target *t = &targets[i];
-        printf("%-24s %10llu calls %10llu answers %10llu refusals\n", t->name,
-            (unsigned long long)(t->answers + t->refusals + t->broken), (unsigned long long)t->answers,
-            (unsigned long long)t->refusals);
-        broken += t->broken;
+        print_target(&targets[i]);
+        broken += targets[i].broken;
     }
     print_grouped(calls);
     printf(" calls, ");
