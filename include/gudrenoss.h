@@ -53,7 +53,7 @@
  * - A buffer that is filled is a pointer and its room: uint64_t *word, size_t word_room. At least that many places must be
  *   writable there. The function writes from place 0 up, stores in *written how many places it has written, and leaves the places
  *   after those as they were. Too little room is refused 8, always as the last check.
- * - Every other pointer is to one place that may be written, never NULL.
+ * - Every other pointer is to one place that may be written, entries[20] to twenty places; it is never NULL.
  * - Pointers are aligned as their type asks. A place or buffer that is written must not overlap another one or a list that is read.
  * - A bool holds true or false and nothing else, also where it is read through a pointer.
  * - Where a length or a room is 0, nothing is read or written through its pointer. Pass any pointer to memory of your own. NULL is

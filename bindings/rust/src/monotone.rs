@@ -1,4 +1,5 @@
 use crate::{sys, Refusal, Sign, Symbols};
+use core::iter::FusedIterator;
 
 /// The two families of words: those that strictly increase, which are subsets, and those that weakly increase, which are multisets.
 #[derive(Debug, Clone, Copy, PartialEq, Eq, Hash, PartialOrd, Ord, Default)]
@@ -239,4 +240,11 @@ impl Iterator for MonoIndices {
     fn next(&mut self) -> Option<MonoIndex> {
         self.step().ok()
     }
+    fn size_hint(&self) -> (usize, Option<usize>) {
+        (self.remaining as usize, Some(self.remaining as usize))
+    }
 }
+
+impl ExactSizeIterator for MonoIndices {}
+
+impl FusedIterator for MonoIndices {}

@@ -80,6 +80,7 @@ fn walks() {
         let mut walk = MonoIndex::all(repetition, nsymbols, degree).unwrap();
         let count = repetition.count(nsymbols, degree).unwrap();
         assert_eq!(walk.remaining(), count);
+        assert_eq!(walk.len() as u64, count);
         for rank in 0..count {
             let index = walk.step().unwrap();
             assert_eq!((index.rank(), index.degree(), index.repetition()), (rank, degree, repetition));
