@@ -1,0 +1,465 @@
+/* How many x86-64 instructions each export runs, counted one by one: a child makes the calls and marks each by two traps, the parent steps it from the first
+ * trap to the second. What is counted is the whole call, its arguments and its return included. For each export the greatest count over its inputs is printed,
+ * with the input that gave it. The inputs are the extremes of each call and random ones from a fixed seed; they are listed by the functions below. */
+#define _GNU_SOURCE
+#include "gudrenoss.h"
+
+#include <signal.h>
+#include <stdarg.h>
+#include <stdio.h>
+#include <stdlib.h>
+#include <string.h>
+#include <sys/mman.h>
+#include <sys/ptrace.h>
+#include <sys/wait.h>
+#include <unistd.h>
+
+#define GREATEST UINT64_MAX
+
+/* What the child says of the call that it is about to make. */
+struct label {
+    char name[48];
+    char input[96];
+};
+
+static struct label *said;
+
+static void about(const char *name, const char *format, ...)
+{
+    va_list rest;
+    va_start(rest, format);
+    snprintf(said->name, sizeof said->name, "%s", name);
+    vsnprintf(said->input, sizeof said->input, format, rest);
+    va_end(rest);
+}
+
+static volatile uint64_t kept;
+
+/* One call between two traps. */
+#define CALL(call)                                 \
+    do {                                           \
+        __asm__ volatile("int3" ::: "memory");     \
+        uint64_t came_back = (call);               \
+        __asm__ volatile("int3" ::: "memory");     \
+        kept = came_back;                          \
+    } while (0)
+
+static uint64_t state = 0x9E3779B97F4A7C15u;
+
+static uint64_t any(void)
+{
+    state ^= state << 13;
+    state ^= state >> 7;
+    state ^= state << 17;
+    return state;
+}
+
+static uint64_t below(uint64_t n)
+{
+    return any() % n;
+}
+
+static uint64_t low(unsigned k)
+{
+    return k == 64 ? GREATEST : ((uint64_t)1 << k) - 1;
+}
+
+/* Bits that are hard in one way or another: k ones at the bottom, at the top, spread out, and random. */
+static uint64_t pattern(unsigned k, unsigned kind)
+{
+    uint64_t bits = 0;
+    switch (kind) {
+    case 0:
+        return low(k);
+    case 1:
+        return k == 0 ? 0 : low(k) << (64 - k);
+    case 2:
+        for (unsigned i = 0; i < k; i++) {
+            bits |= (uint64_t)1 << (i * 64 / k);
+        }
+        return bits;
+    default:
+        for (unsigned left = k; left > 0;) {
+            uint64_t one = (uint64_t)1 << below(64);
+            if ((bits & one) == 0) {
+                bits |= one;
+                left--;
+            }
+        }
+        return bits;
+    }
+}
+
+#define PATTERNS 4
+
+static uint64_t word[80], other[80], out[80], a, b, c;
+static bool yes, sign;
+
+static void terms(void)
+{
+    for (unsigned f = 0; f < 2; f++) {
+        for (uint64_t n = 0; n <= 65; n += n < 60 ? 7 : 1) {
+            for (uint64_t k = 0; k <= 65; k += k < 60 ? 4 : 1) {
+                about("gudrenoss_count", "allowed %u, n %lu, k %lu", f, n, k);
+                CALL(gudrenoss_count(f, n, k, &a));
+                uint64_t count = a;
+                if (gudrenoss_count(f, n, k, &count) != 0) {
+                    count = 0;
+                }
+                uint64_t ranks[4] = {0, count == 0 ? 0 : count - 1, count == 0 ? 0 : below(count), count};
+                for (unsigned i = 0; i < 4; i++) {
+                    about("gudrenoss_unrank", "allowed %u, n %lu, k %lu, r %lu", f, n, k, ranks[i]);
+                    CALL(gudrenoss_unrank(f, n, k, ranks[i], out, 64, &a));
+                    about("gudrenoss_unrank_over", "allowed %u, n %lu, k %lu, r %lu", f, n, k, ranks[i]);
+                    CALL(gudrenoss_unrank_over(f, n, k, ranks[i], &a));
+                }
+                about("gudrenoss_walk_start", "allowed %u, n %lu, k %lu", f, n, k);
+                CALL(gudrenoss_walk_start(f, n, k, &yes, &a, &b));
+            }
+        }
+        for (unsigned k = 0; k <= 65; k++) {
+            uint64_t n = f && k > 0 ? 65 - k : 64, count = 0;
+            if (gudrenoss_count(f, n, k, &count) != 0) {
+                count = 1;
+            }
+            uint64_t ranks[4] = {0, count - 1, below(count), count};
+            for (unsigned i = 0; i < 4; i++) {
+                about("gudrenoss_unrank_any", "allowed %u, k %u, r %lu", f, k, ranks[i]);
+                CALL(gudrenoss_unrank_any(f, k, ranks[i], &a));
+            }
+        }
+    }
+}
+
+static void words(void)
+{
+    for (unsigned f = 0; f < 2; f++) {
+        for (unsigned k = 0; k <= 64; k++) {
+            for (unsigned kind = 0; kind < PATTERNS; kind++) {
+                uint64_t bits = pattern(k, kind), written = 0;
+                about("gudrenoss_unpack", "allowed %u, bits %lu", f, bits);
+                CALL(gudrenoss_unpack(f, bits, word, 64, &a));
+                gudrenoss_unpack(f, bits, word, 64, &written);
+                about("gudrenoss_pack", "allowed %u, the word of bits %lu", f, bits);
+                CALL(gudrenoss_pack(f, word, written, &a));
+                about("gudrenoss_rank", "allowed %u, the word of bits %lu", f, bits);
+                CALL(gudrenoss_rank(f, word, written, &a));
+                about("gudrenoss_rank_of", "allowed %u, bits %lu", f, bits);
+                CALL(gudrenoss_rank_of(f, bits, &a));
+                about("gudrenoss_degree", "allowed %u, bits %lu", f, bits);
+                CALL(gudrenoss_degree(f, bits, &a));
+                about("gudrenoss_successor", "allowed %u, bits %lu", f, bits);
+                CALL(gudrenoss_successor(f, bits, &a));
+                yes = true, a = bits, b = 5;
+                about("gudrenoss_walk_step", "allowed %u, bits %lu", f, bits);
+                CALL(gudrenoss_walk_step(f, &yes, &a, &b, &c));
+                about("gudrenoss_stabilizer", "allowed %u, bits %lu", f, bits);
+                CALL(gudrenoss_stabilizer(f, bits, &a));
+                uint64_t places[3] = {0, k == 0 ? 0 : k - 1, k / 2};
+                for (unsigned i = 0; i < 3; i++) {
+                    about("gudrenoss_symbol", "allowed %u, bits %lu, p %lu", f, bits, places[i]);
+                    CALL(gudrenoss_symbol(f, bits, places[i], &a));
+                    about("gudrenoss_delete", "allowed %u, bits %lu, p %lu", f, bits, places[i]);
+                    CALL(gudrenoss_delete(f, bits, places[i], &sign, &a, &b));
+                }
+                about("gudrenoss_complement", "allowed %u, bits %lu, n 64", f, bits);
+                CALL(gudrenoss_complement(f, bits, 64, &sign, &a));
+            }
+        }
+    }
+}
+
+static void signed_operations(void)
+{
+    for (unsigned f = 0; f < 2; f++) {
+        for (unsigned k = 0; k <= 65; k++) {
+            for (unsigned kind = 0; kind < 5; kind++) {
+                for (unsigned i = 0; i < k; i++) {
+                    word[i] = kind == 0 ? i : kind == 1 ? k - 1 - i : kind == 2 ? 0 : kind == 3 ? below(64) : i / 2 + (i % 2) * (k / 2 + 1);
+                }
+                if (kind == 4 && k > 1) {
+                    word[k - 1] = word[k - 2]; /* found last */
+                }
+                about("gudrenoss_canonicalise", "allowed %u, %u symbols, kind %u", f, k, kind);
+                CALL(gudrenoss_canonicalise(f, word, k, &sign, &a));
+            }
+        }
+        for (unsigned k = 0; k <= 64; k++) {
+            for (unsigned kind = 0; kind < PATTERNS; kind++) {
+                uint64_t x = pattern(k, kind);
+                uint64_t ys[4] = {~x, low(64 - k), x, any() & ~x};
+                for (unsigned i = 0; i < 4; i++) {
+                    about("gudrenoss_merge", "allowed %u, bits %lu and %lu", f, x, ys[i]);
+                    CALL(gudrenoss_merge(f, x, f, ys[i], &sign, &a));
+                }
+            }
+        }
+        for (unsigned k = 0; k <= 64; k++) {
+            uint64_t x = f ? low(k) : pattern(k, 3), y = f ? low(64 - k) : ~x;
+            about("gudrenoss_merge", "allowed %u, bits %lu and %lu", f, x, y);
+            CALL(gudrenoss_merge(f, x, f, y, &sign, &a));
+        }
+    }
+}
+
+static void sets(void)
+{
+    for (unsigned k = 0; k <= 64; k++) {
+        for (unsigned kind = 0; kind < PATTERNS; kind++) {
+            uint64_t set = pattern(k, kind), s = below(66);
+            about("gudrenoss_set_insert", "set %lu, s %lu", set, s);
+            CALL(gudrenoss_set_insert(set, s, &a));
+            about("gudrenoss_set_contains", "set %lu, s %lu", set, s);
+            CALL(gudrenoss_set_contains(set, s, &yes));
+            about("gudrenoss_set_position", "set %lu, s 63", set);
+            CALL(gudrenoss_set_position(set, 63, &a));
+            about("gudrenoss_set_position", "set %lu, s %lu", set, s);
+            CALL(gudrenoss_set_position(set, s, &a));
+            uint64_t chosen[3] = {low(k), k == 0 ? 0 : (uint64_t)1 << (k - 1), any() & low(k)};
+            for (unsigned i = 0; i < 3; i++) {
+                about("gudrenoss_set_select", "set %lu, positions %lu", set, chosen[i]);
+                CALL(gudrenoss_set_select(set, chosen[i], &a));
+            }
+        }
+    }
+}
+
+static gudrenoss_permutation arranged(unsigned n, unsigned kind)
+{
+    gudrenoss_permutation p = {{0}, n};
+    for (unsigned i = 0; i < n && i < 20; i++) {
+        p.entries[i] = kind == 0 ? i : n - 1 - i;
+    }
+    for (unsigned i = n < 20 ? n : 20; kind >= 2 && i > 1; i--) {
+        uint64_t j = below(i), kept_entry = p.entries[i - 1];
+        p.entries[i - 1] = p.entries[j];
+        p.entries[j] = kept_entry;
+    }
+    return p;
+}
+
+static void permutations(void)
+{
+    for (unsigned n = 0; n <= 21; n++) {
+        for (unsigned kind = 0; kind < 6; kind++) {
+            gudrenoss_permutation p = arranged(n, kind), q = arranged(n, 5 - kind);
+            about("gudrenoss_permutation_image", "%u entries, kind %u", n, kind);
+            CALL(gudrenoss_permutation_image(p, n == 0 ? 0 : n - 1, &a));
+            about("gudrenoss_permutation_inverse", "%u entries, kind %u", n, kind);
+            CALL(gudrenoss_permutation_inverse(p, out));
+            about("gudrenoss_permutation_compose", "%u entries, kind %u", n, kind);
+            CALL(gudrenoss_permutation_compose(p, q, out));
+            about("gudrenoss_permutation_sign", "%u entries, kind %u", n, kind);
+            CALL(gudrenoss_permutation_sign(p, &sign));
+            about("gudrenoss_permutation_rank", "%u entries, kind %u", n, kind);
+            CALL(gudrenoss_permutation_rank(p, &a));
+            about("gudrenoss_permutation_successor", "%u entries, kind %u", n, kind);
+            CALL(gudrenoss_permutation_successor(p, out));
+            /* (n-2, .., 1, 0, n-1) and the like: the search for the first fall goes far */
+            for (unsigned i = 0; i + 1 < n && i < 20; i++) {
+                p.entries[i] = i + 1 < n - 1 ? i : n - 1;
+            }
+            if (n > 1 && n <= 20) {
+                p.entries[n - 1] = n - 2;
+            }
+            about("gudrenoss_permutation_successor", "%u entries, rising but for the last two", n);
+            CALL(gudrenoss_permutation_successor(p, out));
+            uint64_t ranks[3] = {0, below(2432902008176640000u), GREATEST};
+            for (unsigned i = 0; i < 3; i++) {
+                about("gudrenoss_permutation_unrank", "%u entries, r %lu", n, ranks[i]);
+                CALL(gudrenoss_permutation_unrank(n, ranks[i], out));
+            }
+        }
+    }
+}
+
+static void shapes(void)
+{
+    static const uint64_t radices[6] = {1, 2, 3, 15, 16, 0};
+    for (unsigned n = 0; n <= 17; n++) {
+        for (unsigned kind = 0; kind < 8; kind++) {
+            for (unsigned i = 0; i < n; i++) {
+                word[i] = kind < 6 ? radices[kind] : kind == 6 ? 1 + below(15) : (uint64_t)1 << below(8);
+                other[i] = word[i] == 0 ? 0 : word[i] - 1;
+            }
+            about("gudrenoss_shape_count", "%u radices, kind %u", n, kind);
+            CALL(gudrenoss_shape_count(word, n, &a));
+            about("gudrenoss_shape_strides", "%u radices, kind %u", n, kind);
+            CALL(gudrenoss_shape_strides(word, n, out, 16, &a));
+            about("gudrenoss_shape_linearize", "%u radices, kind %u", n, kind);
+            CALL(gudrenoss_shape_linearize(word, n, other, n, &a));
+            uint64_t number = 0;
+            if (gudrenoss_shape_count(word, n, &number) == 0 && number > 0) {
+                number--;
+            }
+            about("gudrenoss_shape_delinearize", "%u radices, kind %u, number %lu", n, kind, number);
+            CALL(gudrenoss_shape_delinearize(word, n, number, out, 16, &a));
+            uint64_t axes[3] = {low(n), n == 0 ? 0 : (uint64_t)1 << (n - 1), any() & low(n)};
+            for (unsigned i = 0; i < 3; i++) {
+                about("gudrenoss_shape_corner", "%u radices, kind %u, axes %lu", n, kind, axes[i]);
+                CALL(gudrenoss_shape_corner(word, n, axes[i], &a));
+            }
+        }
+    }
+}
+
+static void digit_words(void)
+{
+    static const uint64_t radices[7] = {0, 1, 2, 3, 10, 256, 4294967296u};
+    for (unsigned kind = 0; kind < 7; kind++) {
+        for (unsigned k = 0; k <= 65; k += k < 60 ? 3 : 1) {
+            uint64_t radix = radices[kind], count = 0, rank = 0;
+            about("gudrenoss_digits_count", "radix %lu, degree %u", radix, k);
+            CALL(gudrenoss_digits_count(radix, k, &a));
+            if (gudrenoss_digits_count(radix, k, &count) == 0 && count > 0) {
+                rank = count - 1;
+            }
+            for (unsigned i = 0; i < k; i++) {
+                word[i] = radix == 0 ? 0 : radix - 1;
+            }
+            about("gudrenoss_digits_from_symbols", "radix %lu, %u symbols", radix, k);
+            CALL(gudrenoss_digits_from_symbols(radix, word, k, &a, &b));
+            for (unsigned turn = 0; turn < 2; turn++, rank = rank == 0 ? 0 : below(rank)) {
+                about("gudrenoss_digits_symbols", "radix %lu, degree %u, rank %lu", radix, k, rank);
+                CALL(gudrenoss_digits_symbols(radix, k, rank, out, 64, &a));
+                about("gudrenoss_digits_symbol", "radix %lu, degree %u, rank %lu, the last", radix, k, rank);
+                CALL(gudrenoss_digits_symbol(radix, k, rank, k == 0 ? 0 : k - 1, &a));
+                about("gudrenoss_digits_multiplicity", "radix %lu, degree %u, rank %lu, s 0", radix, k, rank);
+                CALL(gudrenoss_digits_multiplicity(radix, k, rank, 0, &a));
+                about("gudrenoss_digits_stabilizer", "radix %lu, degree %u, rank %lu", radix, k, rank);
+                CALL(gudrenoss_digits_stabilizer(radix, k, rank, &a));
+                about("gudrenoss_digits_delete", "radix %lu, degree %u, rank %lu, the last", radix, k, rank);
+                CALL(gudrenoss_digits_delete(radix, k, rank, k == 0 ? 0 : k - 1, &a, &b));
+                about("gudrenoss_digits_delete", "radix %lu, degree %u, rank %lu, the first", radix, k, rank);
+                CALL(gudrenoss_digits_delete(radix, k, rank, 0, &a, &b));
+                about("gudrenoss_digits_concat", "radix %lu, degrees %u and %u, rank %lu", radix, k, 64 - k, rank);
+                CALL(gudrenoss_digits_concat(radix, k, rank, radix, k > 64 ? 0 : 64 - k, 0, &a, &b));
+                about("gudrenoss_digits_concat", "radix %lu, degrees %u and 1, rank %lu", radix, k, rank);
+                CALL(gudrenoss_digits_concat(radix, k, rank, radix, 1, 0, &a, &b));
+            }
+        }
+    }
+}
+
+/* n entries, their sum d: all at one end, in the middle, one each, or spread at random. */
+static void entries(uint64_t *into, unsigned n, unsigned d, unsigned kind)
+{
+    memset(into, 0, 80 * sizeof *into);
+    for (unsigned i = 0; i < d && n > 0; i++) {
+        into[kind == 0 ? 0 : kind == 1 ? n - 1 : kind == 2 ? i % n : below(n)]++;
+    }
+}
+
+static void exponents(void)
+{
+    for (unsigned n = 0; n <= 65; n += n < 60 ? 5 : 1) {
+        unsigned most = n > 64 ? 1 : 65 - n;
+        unsigned degrees[3] = {0, most / 2, most};
+        for (unsigned i = 0; i < 3; i++) {
+            unsigned d = n == 0 ? 0 : degrees[i];
+            for (unsigned kind = 0; kind < 4; kind++) {
+                entries(word, n, d, kind);
+                about("gudrenoss_exponents_word", "%u entries of sum %u, kind %u", n, d, kind);
+                CALL(gudrenoss_exponents_word(word, n, out, 64, &a));
+                about("gudrenoss_exponents_rank", "%u entries of sum %u, kind %u", n, d, kind);
+                CALL(gudrenoss_exponents_rank(word, n, &a));
+                entries(other, n, 0, kind);
+                about("gudrenoss_exponents_add", "%u entries of sum %u, kind %u, and zeros", n, d, kind);
+                CALL(gudrenoss_exponents_add(word, n, other, n, out, 64, &a));
+                for (unsigned j = 0; j < d; j++) {
+                    other[j] = kind == 0 ? 0 : kind == 1 ? n - 1 : below(n);
+                }
+                about("gudrenoss_exponents_from_word", "n %u, %u symbols, kind %u", n, d, kind);
+                CALL(gudrenoss_exponents_from_word(n, other, d, out, 64, &a));
+                uint64_t count = 1;
+                if (gudrenoss_count(true, n, d, &count) != 0 || count == 0) {
+                    count = 1;
+                }
+                uint64_t r = kind == 0 ? 0 : kind == 1 ? count - 1 : below(count);
+                about("gudrenoss_exponents_from_rank", "n %u, k %u, r %lu", n, d, r);
+                CALL(gudrenoss_exponents_from_rank(n, d, r, out, 64, &a));
+            }
+        }
+    }
+}
+
+static void child(void)
+{
+    ptrace(PTRACE_TRACEME, 0, 0, 0);
+    raise(SIGSTOP);
+    terms();
+    words();
+    signed_operations();
+    sets();
+    permutations();
+    shapes();
+    digit_words();
+    exponents();
+    _exit(0);
+}
+
+/* Steps the child from the trap that it stands at to the next one, and answers how many instructions that were. */
+static long stepped(pid_t pid)
+{
+    for (long n = 0;; n++) {
+        int status;
+        siginfo_t why;
+        ptrace(PTRACE_SINGLESTEP, pid, 0, 0);
+        waitpid(pid, &status, 0);
+        if (!WIFSTOPPED(status) || ptrace(PTRACE_GETSIGINFO, pid, 0, &why) != 0) {
+            fprintf(stderr, "steps: the child ended within a call\n");
+            exit(1);
+        }
+        if (why.si_code != TRAP_TRACE) {
+            return n;
+        }
+    }
+}
+
+struct most {
+    struct label label;
+    long steps;
+    long calls;
+};
+
+static struct most found[80];
+
+static void enter(long steps)
+{
+    struct most *m = found;
+    while (m->calls > 0 && strcmp(m->label.name, said->name) != 0) {
+        m++;
+    }
+    m->calls++;
+    if (m->calls == 1 || steps > m->steps) {
+        m->label = *said;
+        m->steps = steps;
+    }
+}
+
+int main(void)
+{
+    said = mmap(0, sizeof *said, PROT_READ | PROT_WRITE, MAP_SHARED | MAP_ANONYMOUS, -1, 0);
+    pid_t pid = fork();
+    if (pid == 0) {
+        child();
+    }
+    int status;
+    waitpid(pid, &status, 0);
+    for (;;) {
+        ptrace(PTRACE_CONT, pid, 0, 0);
+        waitpid(pid, &status, 0);
+        if (WIFEXITED(status)) {
+            break;
+        }
+        if (!WIFSTOPPED(status) || WSTOPSIG(status) != SIGTRAP) {
+            fprintf(stderr, "steps: the child stopped with status %d\n", status);
+            return 1;
+        }
+        enter(stepped(pid));
+    }
+    for (struct most *m = found; m->calls > 0; m++) {
+        printf("%s\t%ld\t%ld\t%s\n", m->label.name, m->steps, m->calls, m->label.input);
+    }
+    return 0;
+}
