@@ -507,4 +507,5 @@ def main():
         print(answer(line))
 
 
-main()
+if __name__ == "__main__":
+    main()
