@@ -4,9 +4,11 @@
 //
 //   driver [N] < requests > calls
 
+mod drawn;
 mod original;
 mod random;
 mod requests;
+mod small;
 
 use std::io::{BufRead, BufWriter, Write, stdin, stdout};
 
@@ -21,8 +23,8 @@ fn main() {
         requests.put(&line.unwrap());
     }
     if let Some(n) = std::env::args().nth(1) {
-        requests.exhaustive();
-        requests.random(n.parse().unwrap(), SEED);
+        small::all(&mut requests);
+        drawn::some(&mut requests, n.parse().unwrap(), SEED);
     }
     out.flush().unwrap();
 }

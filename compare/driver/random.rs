@@ -7,10 +7,7 @@
 
 pub struct Random(u64);
 
-const EDGES: [u64; 24] = [
-    0, 1, 2, 3, 19, 20, 21, 62, 63, 64, 65, 66, 127, 128, 129, 255, 65536, u32::MAX as u64, 1 << 32, (1 << 32) + 1, i64::MAX as u64, 1 << 63,
-    u64::MAX - 1, u64::MAX,
-];
+const EDGES: [u64; 18] = [0, 1, 2, 3, 19, 20, 21, 62, 63, 64, 65, 66, 127, 128, 129, 255, 256, 65536];
 
 impl Random {
     pub fn new(seed: u64) -> Self {
@@ -42,13 +39,11 @@ impl Random {
     }
 
     pub fn number(&mut self) -> u64 {
-        match self.below(4) {
+        match self.below(5) {
             0 => self.of(&EDGES),
             1 => self.below(70),
-            2 => {
-                let width = self.below(64);
-                self.next() >> width
-            }
+            2 => self.next() >> self.below(64),
+            3 => (1 << self.of(&[32, 63])) + self.below(3) - 1,
             _ => u64::MAX - self.below(70),
         }
     }
