@@ -68,7 +68,7 @@ fn indices(to: &mut Requests) {
                 to.put(&format!("{verb} {f} {x}"));
             }
             let k = x.count_ones() as u64;
-            if x >= 1024 && x.is_multiple_of(7) {
+            if x >= 1024 && x % 7 == 0 {
                 continue;
             }
             for p in 0..=k + 1 {
