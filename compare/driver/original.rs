@@ -171,6 +171,8 @@ fn permutation_after(p: &Permutation) -> Option<Permutation> {
     (rank + 1 < multiindex::factorial(n)).then(|| Permutation::from_rank(n, rank + 1))
 }
 
+// Of the original's two ways from a rank to an index, the one over an alphabet gives a word, which is packed for `unrankover`; the other
+// gives an index and names no alphabet, which is `unrankany`.
 fn answer(verb: &str, q: &Request) -> Option<String> {
     match verb {
         "count" => one(q.family().count(q.at(0), q.at(1))),
