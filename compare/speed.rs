@@ -1,0 +1,118 @@
+// Times rank, successor and unrank: the Rust original beside this port's static library, on the same inputs, in one program. Both sides are
+// functions of one shape, that of the C boundary, and neither is inlined; so both pay for one call.
+//
+//   sample     two hundred thousand numbers with so many ones, from a fixed seed
+//   race       the least time of each side over a number of rounds, in turns, after both gave the same answers
+
+use multiindex::{Combination, MonoIndex, Repetition};
+use std::time::{Duration, Instant};
+
+const SIZE: usize = 200_000;
+const ROUNDS: usize = 15;
+
+#[link(name = "capi", kind = "static")]
+unsafe extern "C" {
+    fn gudrenoss_rank_of(allowed: bool, bits: u64, rank: &mut u64) -> u64;
+    fn gudrenoss_successor(allowed: bool, bits: u64, next: &mut u64) -> u64;
+    fn gudrenoss_unrank_any(allowed: bool, k: u64, r: u64, bits: &mut u64) -> u64;
+}
+
+// ---- the other side, as functions of the same shape
+
+#[inline(never)]
+extern "C" fn their_rank(_: bool, bits: u64, rank: &mut u64) -> u64 {
+    *rank = MonoIndex::from(Combination::from_bits(bits)).rank() as u64;
+    0
+}
+
+#[inline(never)]
+extern "C" fn their_successor(_: bool, bits: u64, next: &mut u64) -> u64 {
+    match MonoIndex::from(Combination::from_bits(bits)).colex_successor() {
+        Some(index) => {
+            *next = index.shifted_bits();
+            0
+        }
+        None => 4,
+    }
+}
+
+#[inline(never)]
+extern "C" fn their_unrank(_: bool, k: u64, r: u64, bits: &mut u64) -> u64 {
+    *bits = MonoIndex::from_rank(Repetition::Forbidden, k as usize, r as usize).shifted_bits();
+    0
+}
+
+// ---- the inputs
+
+struct Random(u64);
+
+impl Random {
+    fn next(&mut self) -> u64 {
+        self.0 ^= self.0 << 13;
+        self.0 ^= self.0 >> 7;
+        self.0 ^= self.0 << 17;
+        self.0
+    }
+}
+
+// Numbers with as many ones as the degrees say in turn.
+fn sample(degrees: &[u64]) -> Vec<(u64, u64)> {
+    let mut random = Random(0x9E37_79B9_7F4A_7C15);
+    let of_degree = |k: u64, random: &mut Random| {
+        let mut bits = 0u64;
+        while bits.count_ones() < k as u32 {
+            bits |= 1 << (random.next() % 64);
+        }
+        bits
+    };
+    (0..SIZE).map(|i| degrees[i % degrees.len()]).map(|k| (of_degree(k, &mut random), k)).collect()
+}
+
+// ---- the race
+
+fn timed(call: impl Fn(u64, u64, &mut u64) -> u64, inputs: &[(u64, u64)]) -> (Duration, u64) {
+    let start = Instant::now();
+    let mut sum = 0u64;
+    for &(a, b) in inputs {
+        let mut out = 0;
+        sum = sum.wrapping_mul(31).wrapping_add(call(a, b, &mut out)).wrapping_add(out);
+    }
+    (start.elapsed(), sum)
+}
+
+fn race(
+    name: &str,
+    group: &str,
+    inputs: &[(u64, u64)],
+    ours: impl Fn(u64, u64, &mut u64) -> u64,
+    theirs: impl Fn(u64, u64, &mut u64) -> u64,
+) {
+    let (mut here, mut there) = (Duration::MAX, Duration::MAX);
+    for _ in 0..ROUNDS {
+        let (a, ours_said) = timed(&ours, inputs);
+        let (b, theirs_said) = timed(&theirs, inputs);
+        assert_eq!(ours_said, theirs_said, "speed: the answers differ: {name}, {group}");
+        here = here.min(a);
+        there = there.min(b);
+    }
+    let each = |d: Duration| d.as_secs_f64() * 1e9 / inputs.len() as f64;
+    println!("{name:10} {group:>6} {:>10.1} {:>10.1} {:>8.2}", each(here), each(there), each(here) / each(there));
+}
+
+fn rank_of(bits: u64) -> u64 {
+    let mut rank = 0;
+    unsafe { gudrenoss_rank_of(false, bits, &mut rank) };
+    rank
+}
+
+fn main() {
+    println!("{:10} {:>6} {:>10} {:>10} {:>8}", "call", "degree", "here, ns", "Rust, ns", "ratio");
+    let mixed: Vec<u64> = (1..=12).collect();
+    for (group, degrees) in [("1-12", &mixed[..]), ("2", &[2]), ("6", &[6]), ("12", &[12]), ("32", &[32]), ("48", &[48])] {
+        let sets = sample(degrees);
+        race("rank", group, &sets, |a, _, out| unsafe { gudrenoss_rank_of(false, a, out) }, |a, _, out| their_rank(false, a, out));
+        race("successor", group, &sets, |a, _, out| unsafe { gudrenoss_successor(false, a, out) }, |a, _, out| their_successor(false, a, out));
+        let ranks: Vec<(u64, u64)> = sets.iter().map(|&(bits, k)| (k, rank_of(bits))).collect();
+        race("unrank", group, &ranks, |k, r, out| unsafe { gudrenoss_unrank_any(false, k, r, out) }, |k, r, out| their_unrank(false, k, r, out));
+    }
+}
