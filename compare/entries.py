@@ -123,6 +123,22 @@ def digit_answer(c):
     return [prod(factorial(digits.count(s)) for s in range(radix))]
 
 
+def exponent(c):
+    """The exponent of the power that is taken."""
+    place = {"digitcount": 1, "digitconcat": 1, "digitsymbol": 3}.get(c.verb)
+    return c.a[place] if place else 0
+
+
+def cut_answer(c):
+    """The same with that exponent cut to its low 32 bits."""
+    power = c.a[0] ** (exponent(c) % CUT)
+    if c.verb == "digitcount":
+        return [power]
+    if c.verb == "digitsymbol":
+        return [c.a[2] // power % c.a[0]]
+    return [c.a[1] + c.a[4], c.a[2] + c.a[5] * power]
+
+
 def shape_answer(c):
     if c.verb == "shapecount":
         return [prod(c.a)]
@@ -271,8 +287,9 @@ RULES = [
     ("D11d", "walk", [1], "none", walk_ended),
     ("D11e", PERMUTATIONS, [1], "answer", lambda c: any(len(p) > 20 for p in lists_of(c)) and c.gives(*permutation_answer(c))),
     ("D11f", SHAPES, [1], "answer", lambda c: len(axes(c)) > 16 and c.gives(*shape_answer(c))),
-    ("D22", DIGITS, [1], "answer", lambda c: any(w[1] >= CUT for w in digit_words(c)) and cut_degree(c)),
-    ("D11g", DIGITS, [1], "answer", lambda c: sum(w[1] for w in digit_words(c)) > 64 and c.gives(*digit_answer(c))),
+    ("D22", "digitcount digitsymbol digitconcat", [1], "answer", lambda c: exponent(c) >= CUT and c.gives(*cut_answer(c))),
+    ("D11g", DIGITS, [1], "answer",
+     lambda c: exponent(c) < CUT and sum(w[1] for w in digit_words(c)) > 64 and c.gives(*digit_answer(c))),
     ("D11h", EXPONENTS, [1], "answer", lambda c: c.gives(*exponent_answer(c))),
     ("D11i", "unrank unrankover expunrank", [1], "answer", unranked),
     ("D21", "unrank unpack strides delinearize digitsymbols expword expfrom expunrank expadd", [8], "answer",
@@ -286,16 +303,6 @@ RULES = [
     ("D23", "unrank unrankover expunrank digitsymbols digitmultiplicity digitstabilizer digitdelete exprank expword expfrom", [1],
      "not run D23", any_input),
 ]
-
-
-def cut_degree(c):
-    """The power is taken to the degree cut to 32 bits."""
-    if c.verb == "digitcount":
-        return c.gives(c.a[0] ** (c.a[1] % CUT))
-    radix, degree, rank = c.a[:3]
-    if c.verb == "digitconcat":
-        return c.gives(degree + c.a[4], rank + c.a[5] * radix ** (degree % CUT))
-    return c.verb == "digitsymbol" and c.gives(rank // radix ** (c.a[3] % CUT) % radix)
 
 
 # ---- the Rust panics, or has no value: the entry by verb and refusal
@@ -362,7 +369,7 @@ def stated(c):
     if v == "digitcount":
         return power_or_more(a[0], a[1] % CUT)
     if v == "digitsymbol":
-        return power_or_more(a[0], a[3])
+        return power_or_more(a[0], a[3] % CUT)
     if v == "digitmultiplicity":
         return power_or_more(a[0], a[1] - 1)
     if v == "digitdelete":
