@@ -1,9 +1,10 @@
 /*
  * Gudrenoss: term numbering for tank gauging, for programs in C99 and C++.
  *
- * Every function below is proved to do what is said here, for all inputs (docs/RULES.md has the same rules with more examples).
- * Link with libgudrenoss.a; it needs nothing but memcpy, memmove and memset. Sections: one rule, words, pointers, refusals,
- * then the functions: terms, signed operations, sets, permutations, shapes, digit words, exponents.
+ * The source of every function below is proved to do what is said here, for all inputs. docs/RULES.md has the same rules with more
+ * examples, docs/PROMISES.md says what the proofs rest on. Link with libgudrenoss.a, which is for x86-64 Linux and needs nothing but
+ * memcpy, memmove and memset. Sections: one rule, words, pointers, refusals, then the functions: terms, signed operations, sets,
+ * permutations, shapes, digit words, exponents.
  *
  * ONE RULE
  *
@@ -57,7 +58,8 @@
  * - Pointers are aligned as their type asks. A place or buffer that is written must not overlap another one or a list that is read.
  * - A bool holds true or false and nothing else, also where it is read through a pointer.
  * - Where a length or a room is 0, nothing is read or written through its pointer. Pass any pointer to memory of your own. NULL is
- *   outside what the proofs speak of; the compiled code assumes nothing of such a pointer, never uses it, and is tested with NULL.
+ *   outside what the proofs speak of; the code is compiled without the assumption that such a pointer is not NULL, and is tested
+ *   with it.
  */
 #ifndef GUDRENOSS_H
 #define GUDRENOSS_H
