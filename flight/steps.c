@@ -305,21 +305,26 @@ static void shapes(void)
 
 static void digit_words(void)
 {
-    static const uint64_t radices[7] = {0, 1, 2, 3, 10, 256, 4294967296u};
-    for (unsigned kind = 0; kind < 7; kind++) {
+    static const uint64_t radices[9] = {0, 1, 2, 3, 4, 5, 10, 256, 4294967296u};
+    for (unsigned kind = 0; kind < 9; kind++) {
         for (unsigned k = 0; k <= 65; k += k < 60 ? 3 : 1) {
-            uint64_t radix = radices[kind], count = 0, rank = 0;
+            uint64_t radix = radices[kind], count = 0, ranks[3] = {0};
             about("gudrenoss_digits_count", "radix %lu, degree %u", radix, k);
             CALL(gudrenoss_digits_count(radix, k, &a));
             if (gudrenoss_digits_count(radix, k, &count) == 0 && count > 0) {
-                rank = count - 1;
+                ranks[0] = count - 1;
+                ranks[1] = below(count);
             }
             for (unsigned i = 0; i < k; i++) {
                 word[i] = radix == 0 ? 0 : radix - 1;
+                other[i] = radix == 0 ? 0 : i % radix;
             }
+            /* every symbol about as often: the stabilizer goes furthest before it is too big */
+            gudrenoss_digits_from_symbols(radix, other, k, &a, &ranks[2]);
             about("gudrenoss_digits_from_symbols", "radix %lu, %u symbols", radix, k);
             CALL(gudrenoss_digits_from_symbols(radix, word, k, &a, &b));
-            for (unsigned turn = 0; turn < 2; turn++, rank = rank == 0 ? 0 : below(rank)) {
+            for (unsigned i = 0; i < 3; i++) {
+                uint64_t rank = ranks[i];
                 about("gudrenoss_digits_symbols", "radix %lu, degree %u, rank %lu", radix, k, rank);
                 CALL(gudrenoss_digits_symbols(radix, k, rank, out, 64, &a));
                 about("gudrenoss_digits_symbol", "radix %lu, degree %u, rank %lu, the last", radix, k, rank);
