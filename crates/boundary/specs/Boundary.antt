@@ -17,7 +17,7 @@ use Rattle.words.specs.declared.Family.the-variants.{Forbidden, Allowed}
 use Rattle.answers.specs.declared.Sign.{Sign}
 use Rattle.answers.specs.declared.Sign.the-variants.{Plus, Minus}
 use Rattle.answers.specs.declared.Index.{Index}
-use Rattle.answers.specs.Says.{Says, refuses, gives, Term}
+use Rattle.answers.specs.Says.{Says, refusesWith, gives, Term}
 use Rattle.monotone.specs.declared.Current.{Current}
 use Rattle.monotone.specs.declared.Current.the-variants.{At, Nothing}
 use Rattle.monotone.specs.declared.Walk.{Walk}
@@ -29,11 +29,11 @@ familyOf true = Allowed
 familyOf false = Forbidden
 
 abbrev pub status : {A : Type 0} → Says A → ℕ
-status (refuses e) = e
+status (refusesWith e c) = e
 status (gives a) = 0
 
 abbrev pub stored : {A B : Type 0} → (A → B) → Says A → B → B
-stored f (refuses e) old = old
+stored f (refusesWith e c) old = old
 stored f (gives a) old = f a
 
 abbrev pub itself : ℕ → ℕ

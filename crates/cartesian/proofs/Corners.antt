@@ -21,8 +21,8 @@ use Rattle.words.specs.Bits.{setBits}
 use Rattle.positional.specs.Positional.{product, stride, cornerOf}
 use Rattle.positional.proofs.Strides.{stride-next}
 use Rattle.positional.proofs.Corner.{corner-turn, corner-none}
-use Rattle.answers.specs.Says.{Says, gives, refuses}
-use Rattle.answers.proofs.Says.{gives-same, gives-no-refusal}
+use Rattle.answers.specs.Says.{Says, gives, refuses, refusesWith}
+use Rattle.answers.proofs.Says.{gives-same, gives-no-refusal, gives-never}
 use Rattle.cartesian.specs.Checks.{fits}
 
 -- ---- numbers that may be 2^64 or more
@@ -40,15 +40,15 @@ fits-given n x e = go (leb (2 ^ 64) n) refl e
     go true b e = absurd (gives-no-refusal x 9 e)
     go false b e = gives-same x n e
 
-pub fits-refused : (n d : ℕ) → refuses d ≡ fits n → 2 ^ 64 ≤ n
-fits-refused n d e = go (leb (2 ^ 64) n) refl e
+pub fits-refused : (n d : ℕ) (c : List ℕ) → refusesWith d c ≡ fits n → 2 ^ 64 ≤ n
+fits-refused n d c e = go (leb (2 ^ 64) n) refl e
   where
-    go : (t : Bool) → leb (2 ^ 64) n ≡ t → refuses d ≡ pick t (refuses 9) (gives n) → 2 ^ 64 ≤ n
+    go : (t : Bool) → leb (2 ^ 64) n ≡ t → refusesWith d c ≡ pick t (refuses 9) (gives n) → 2 ^ 64 ≤ n
     go true b e = leb-true (2 ^ 64) n b
-    go false b e = absurd (gives-no-refusal n d (sym e))
+    go false b e = absurd (gives-never n d c (sym e))
 
-pub stays-big : (n m d : ℕ) → refuses d ≡ fits n → n ≤ m → fits n ≡ fits m
-stays-big n m d e h = fits-big n (fits-refused n d e) ∙ sym (fits-big m (omega (arith, h, fits-refused n d e)))
+pub stays-big : (n m d : ℕ) (c : List ℕ) → refusesWith d c ≡ fits n → n ≤ m → fits n ≡ fits m
+stays-big n m d c e h = fits-big n (fits-refused n d c e) ∙ sym (fits-big m (omega (arith, h, fits-refused n d c e)))
 
 -- ---- the loop over the axes
 

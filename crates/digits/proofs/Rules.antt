@@ -9,6 +9,7 @@
 --   symbols-short, symbols-given    what the symbols of a known word say
 use mathlib.Core.Path.{_≡_, refl, sym, ap, _∙_}
 use mathlib.Core.Bool.{Bool, true, false}
+use mathlib.Core.List.{List}
 use Prim.Native.Nat.{ℕ, _^_, _≤_, _<_}
 use native.Mathlib.Omega.{arith}
 use borrow.Author.Tests.{ltb-false, leb-false, lt-ltb, le-ltb, le-leb, lt-leb}
@@ -16,8 +17,8 @@ use lib.Dec.{leb, ltb}
 use Rattle.answers.specs.declared.Refusal.{Refusal}
 use Rattle.answers.specs.declared.Answer.{Answer}
 use Rattle.answers.specs.declared.Answer.the-variants.{Refused}
-use Rattle.answers.specs.Says.{Says, refuses, gives, refusedIf, andThen, answerSays}
-use Rattle.answers.proofs.Says.{gives-same, gives-no-refusal, passed, then-gave}
+use Rattle.answers.specs.Says.{Says, refuses, refusesWith, gives, refusedIf, andThen, answerSays}
+use Rattle.answers.proofs.Says.{gives-same, gives-never, passed, then-gave}
 use Rattle.cartesian.specs.Checks.{fits}
 use Rattle.digits.specs.declared.DigitWord.{DigitWord}
 use Rattle.digits.specs.Rules.{symbolsOf, countSays, checkSays, given, symbolsSays}
@@ -39,20 +40,20 @@ checked-is x c p h = sym (simp (lt-leb c (x .rank) h)) ∙ ap (λ s. andThen s (
 pub given-passed : {A : Type 0} (x : DigitWord) (c : ℕ) (s : Says A) → gives c ≡ checkSays x → given x s ≡ s
 given-passed x c s e = ap (λ t. andThen t (λ d. s)) (sym e)
 
-pub given-refused : {A : Type 0} (x : DigitWord) (d : ℕ) (s : Says A) → refuses d ≡ checkSays x → given x s ≡ refuses d
-given-refused x d s e = ap (λ t. andThen t (λ d. s)) (sym e)
+pub given-refused : {A : Type 0} (x : DigitWord) (d : ℕ) (c : List ℕ) (s : Says A) → refusesWith d c ≡ checkSays x → given x s ≡ refusesWith d c
+given-refused x d c s e = ap (λ t. andThen t (λ d. s)) (sym e)
 
 pub fits-given : (n c : ℕ) → fits n ≡ gives c → (n < 2 ^ 64) × (c ≡ n)
 fits-given n c e =
     let p = passed (leb (2 ^ 64) n) 9 (gives n) c e in
     (leb-false (2 ^ 64) n (p .0), sym (gives-same n c (p .1)))
 
-pub fits-refused : (n d : ℕ) → refuses d ≡ fits n → leb (2 ^ 64) n ≡ true
-fits-refused n d e = go (leb (2 ^ 64) n) e
+pub fits-refused : (n d : ℕ) (c : List ℕ) → refusesWith d c ≡ fits n → leb (2 ^ 64) n ≡ true
+fits-refused n d c e = go (leb (2 ^ 64) n) e
   where
-    go : (t : Bool) → refuses d ≡ refusedIf t 9 (gives n) → t ≡ true
+    go : (t : Bool) → refusesWith d c ≡ refusedIf t 9 (gives n) → t ≡ true
     go true e = refl
-    go false e = absurd (gives-no-refusal n d (sym e))
+    go false e = absurd (gives-never n d c (sym e))
 
 pub fits-gives : (n : ℕ) → n < 2 ^ 64 → fits n ≡ gives n
 fits-gives n h = simp (lt-leb (2 ^ 64) n h)
@@ -93,8 +94,8 @@ stride-is x c p s k h e = gives-same s (x .radix ^ p) (e ∙ stride-given x c p 
 pub stride-some : (x : DigitWord) (c p s : ℕ) → Known x c → p < x .degree → gives s ≡ fits (x .radix ^ p) → 0 < s
 stride-some x c p s k h e = omega (arith, stride-is x c p s k h e, power-positive (x .radix) p (radix-some x c p k h))
 
-pub stride-refused : {P : Type 0} (x : DigitWord) (c p d : ℕ) → Known x c → p < x .degree → refuses d ≡ fits (x .radix ^ p) → P
-stride-refused x c p d k h e = absurd (gives-no-refusal (x .radix ^ p) d (sym (stride-given x c p k h) ∙ sym e))
+pub stride-refused : {P : Type 0} (x : DigitWord) (c p d : ℕ) (f : List ℕ) → Known x c → p < x .degree → refusesWith d f ≡ fits (x .radix ^ p) → P
+stride-refused x c p d f k h e = absurd (gives-never (x .radix ^ p) d f (sym (stride-given x c p k h) ∙ sym e))
 
 -- ---- the symbols
 

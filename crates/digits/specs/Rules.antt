@@ -23,7 +23,7 @@ use lib.Dec.{leb, ltb, eqb}
 use lib.ListN.{length, getD, replicate}
 use Rattle.words.specs.Inversions.{multiplicity}
 use Rattle.words.specs.Without.{without}
-use Rattle.answers.specs.Says.{Says, refuses, gives, refusedIf, andThen, numberOf as refusalOf}
+use Rattle.answers.specs.Says.{Says, refusesWith, gives, refusedIf, andThen, numberOf as refusalOf, carriedBy}
 use Rattle.bits.specs.Member.{reaches}
 use Rattle.positional.specs.Positional.{numberOf, digitsOf}
 use Rattle.cartesian.specs.Checks.{fits}
@@ -99,8 +99,8 @@ deleteSays x p = given x (takeSays x p)
 
 abbrev pub wordedSays : Worded → Says DigitWord
 wordedSays (worded.Is x) = gives x
-wordedSays (worded.Refused e) = refuses (refusalOf e)
+wordedSays (worded.Refused e) = refusesWith (refusalOf e) (carriedBy e)
 
 abbrev pub deletedSays : Deleted → Says Taken
 deletedSays (deleted.At s x) = gives (record { symbol = s; left = x })
-deletedSays (deleted.Refused e) = refuses (refusalOf e)
+deletedSays (deleted.Refused e) = refusesWith (refusalOf e) (carriedBy e)

@@ -9,7 +9,7 @@ use lib.ListN.{length, drop}
 use lib.Seq.{take-append-seam}
 use Rattle.arrangements.specs.Permutation.{Permutation as IsPermutation}
 use Rattle.answers.specs.declared.Refusal.{Refusal}
-use Rattle.answers.specs.Says.{Says, refuses, gives, numberOf}
+use Rattle.answers.specs.Says.{Says, refusesWith, gives, numberOf, carriedBy}
 use Rattle.permutation.specs.declared.Permutation.{Permutation}
 use Rattle.permutation.specs.declared.Arranged.{Arranged}
 use Rattle.permutation.specs.Record.{capacity, zeros, wordOf, recordOf, Holds, refusal, giving, Arranges}
@@ -24,7 +24,7 @@ record-holds n w p l =
       permutation = subst⁻¹ (IsPermutation (length w)) (word-of-record w) (subst⁻¹ (λ (m : ℕ). IsPermutation m w) (p .long) p);
     }
 
-pub arranges-refusal : (s : Says (List ℕ)) (r : Arranged) (e : Refusal) → r ≡ refusal e → s ≡ refuses (numberOf e) → Arranges s r
+pub arranges-refusal : (s : Says (List ℕ)) (r : Arranged) (e : Refusal) → r ≡ refusal e → s ≡ refusesWith (numberOf e) (carriedBy e) → Arranges s r
 arranges-refusal s r e q t = subst⁻¹ (λ (x : Arranged). Arranges s x) q (subst⁻¹ (λ (x : Says (List ℕ)). Arranges x (refusal e)) t (record { says = refl; value = refl }))
 
 pub arranges-given : (s : Says (List ℕ)) (r : Arranged) (p : Permutation) (w : List ℕ) → r ≡ giving p → p ≡ recordOf w → s ≡ gives w → Arranges s r

@@ -14,7 +14,7 @@ use lib.Seq.{length-take-le, getD-take}
 use Rattle.arrangements.specs.Permutation.{isPermutation}
 use Rattle.arrangements.proofs.Places.{by-places, test-tells, test-passes}
 use Rattle.answers.specs.declared.Refusal.{Refusal}
-use Rattle.answers.specs.Says.{refuses, gives, refusedIf, numberOf}
+use Rattle.answers.specs.Says.{refuses, refusesWith, gives, refusedIf, numberOf, carriedBy}
 use Rattle.answers.proofs.Says.{passed}
 use Rattle.permutation.specs.declared.Permutation.{Permutation}
 use Rattle.permutation.specs.declared.Verdict.{Verdict}
@@ -48,7 +48,7 @@ holds-taken p w l e =
 -- ---- the verdict of the check
 
 module _ (p : Permutation) (v : Verdict) (says : verdictSays v (wordOf p) ≡ taken p) where
-  pub verdict-refuses : (e : Refusal) → v ≡ verdict.Refused e → taken p ≡ refuses (numberOf e)
+  pub verdict-refuses : (e : Refusal) → v ≡ verdict.Refused e → taken p ≡ refusesWith (numberOf e) (carriedBy e)
   verdict-refuses e q = sym says ∙ ap (λ (x : Verdict). verdictSays x (wordOf p)) q
 
   pub verdict-gives : v ≡ verdict.Given → Whole p → Holds p

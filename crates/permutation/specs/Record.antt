@@ -18,7 +18,7 @@ use lib.ListN.{length, take, drop, replicate}
 use Rattle.arrangements.specs.Permutation.{Permutation as IsPermutation}
 use Rattle.answers.specs.declared.Refusal.{Refusal}
 use Rattle.answers.specs.declared.Sign.{Sign}
-use Rattle.answers.specs.Says.{Says, refuses, gives, numberOf}
+use Rattle.answers.specs.Says.{Says, refusesWith, gives, numberOf, carriedBy}
 use Rattle.permutation.specs.declared.Permutation.{Permutation}
 use Rattle.permutation.specs.declared.Signs.{Signs}
 use Rattle.permutation.specs.declared.Signs.the-variants as signs
@@ -54,17 +54,17 @@ pub record Agree (p q : Permutation) : Type 0 where
 
 abbrev pub verdictSays : {A : Type 0} → Verdict → A → Says A
 verdictSays verdict.Given a = gives a
-verdictSays (verdict.Refused e) a = refuses (numberOf e)
+verdictSays (verdict.Refused e) a = refusesWith (numberOf e) (carriedBy e)
 
 abbrev pub signsSays : Signs → Says Sign
 signsSays (signs.Is s) = gives s
-signsSays (signs.Refused e) = refuses (numberOf e)
+signsSays (signs.Refused e) = refusesWith (numberOf e) (carriedBy e)
 
 abbrev pub arrangedSays : Arranged → Says (List ℕ)
 arrangedSays r = verdictSays (r .verdict) (wordOf (r .value))
 
 abbrev pub valueOf : Says (List ℕ) → Permutation
-valueOf (refuses e) = recordOf []
+valueOf (refusesWith e c) = recordOf []
 valueOf (gives w) = recordOf w
 
 -- the answers that refuse with e, and that give p

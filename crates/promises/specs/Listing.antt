@@ -10,14 +10,14 @@ use Rattle.words.specs.declared.Family.{Family}
 use Rattle.words.specs.Word.{Word}
 use Rattle.words.specs.Colex.{ColexLt}
 use Rattle.words.specs.HowMany.{In, Distinct}
-use Rattle.answers.specs.Says.{Says, refuses, gives}
+use Rattle.answers.specs.Says.{Says, refusesWith, gives}
 use Rattle.answers.specs.Terms.{wordOf}
 use Rattle.monotone.specs.declared.Walk.{Walk}
 use Rattle.monotone.specs.Walks.{Moved, stepSays}
 
 -- the word that a step gives, and what is listed from the state after it; nothing after a refusal
 abbrev pub follow : (Walk → List (List ℕ)) → Says Moved → List (List ℕ)
-follow rest (refuses e) = []
+follow rest (refusesWith e c) = []
 follow rest (gives m) = wordOf (m .index) ∷ rest (m .state)
 
 unfoldable pub listing : ℕ → Walk → List (List ℕ)

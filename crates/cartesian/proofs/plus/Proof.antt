@@ -15,7 +15,7 @@ enum-told : tie.Need-enum-told
 enum-told c = search needs
 
 returns : tie.Need-returns
-returns c = λ m n p q. p ∙ stays-big m (m + n) _ (sym (ap answerSays (c .enum-told .given .1)) ∙ p) (omega arith)
+returns c = λ m n p q. p ∙ stays-big m (m + n) _ _ (sym (ap answerSays (c .enum-told .given .1)) ∙ p) (omega arith)
 
 enum-known-b : tie.Need-enum-known-b
 enum-known-b c = search needs
@@ -24,7 +24,7 @@ enum-told-2 : tie.Need-enum-told-2
 enum-told-2 c = search needs
 
 returns-2 : tie.Need-returns-2
-returns-2 c = λ m n p q. q ∙ stays-big n (m + n) _ (sym (ap answerSays (c .enum-told2 .given .1)) ∙ q) (omega arith)
+returns-2 c = λ m n p q. q ∙ stays-big n (m + n) _ _ (sym (ap answerSays (c .enum-told2 .given .1)) ∙ q) (omega arith)
 
 sub-if1 : tie.Need-sub-if1
 sub-if1 c = search needs

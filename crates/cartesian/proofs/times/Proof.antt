@@ -21,7 +21,7 @@ enum-told : tie.Need-enum-told
 enum-told c = search needs
 
 returns-2 : tie.Need-returns-2
-returns-2 c = λ n p. p ∙ stays-big n (n * c .before .before .before .args .r) _ (sym (ap answerSays (c .enum-told .given .1)) ∙ p) (le-mul-of-pos-right n (omega arith))
+returns-2 c = λ n p. p ∙ stays-big n (n * c .before .before .before .args .r) _ _ (sym (ap answerSays (c .enum-told .given .1)) ∙ p) (le-mul-of-pos-right n (omega arith))
 
 exceeds-requires : tie.Need-exceeds-requires
 exceeds-requires c κs = search needs

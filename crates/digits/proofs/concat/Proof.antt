@@ -30,7 +30,7 @@ returns : tie.Need-returns
 returns c = search needs
 
 returns-2 : tie.Need-returns-2
-returns-2 c = sym (given-refused (c .before .before .before .before .before .before .before .args .x) _ (given (c .before .before .before .before .before .before .before .args .y) (joinSays (c .before .before .before .before .before .before .before .args .x) (c .before .before .before .before .before .before .before .args .y))) (sym (ap answerSays (c .before .before .before .before .a2 .given .1 ∙ c .before .a3 .given .1)) ∙ c .before .before .before .before .before .before .check .ensures))
+returns-2 c = sym (given-refused (c .before .before .before .before .before .before .before .args .x) _ _ (given (c .before .before .before .before .before .before .before .args .y) (joinSays (c .before .before .before .before .before .before .before .args .x) (c .before .before .before .before .before .before .before .args .y))) (sym (ap answerSays (c .before .before .before .before .a2 .given .1 ∙ c .before .a3 .given .1)) ∙ c .before .before .before .before .before .before .check .ensures))
 
 check-requires-2 : tie.Need-check-requires-2
 check-requires-2 c κs = search needs
@@ -54,7 +54,7 @@ returns-4 : tie.Need-returns-4
 returns-4 c =
     let x = c .before .before .before .before .before .before .before .before .before .before .before .args .x in
     let y = c .before .before .before .before .before .before .before .before .before .before .before .args .y in
-    sym (given-passed x _ (given y (joinSays x y)) (sym (ap answerSays (c .before .before .before .before .before .before .before .before .a .given .1)) ∙ c .before .before .before .before .before .before .before .before .before .before .check .ensures) ∙ given-refused y _ (joinSays x y) (sym (ap answerSays (c .before .before .before .before .b .given .1 ∙ c .before .b2 .given .1)) ∙ c .before .before .before .before .before .before .check2 .ensures))
+    sym (given-passed x _ (given y (joinSays x y)) (sym (ap answerSays (c .before .before .before .before .before .before .before .before .a .given .1)) ∙ c .before .before .before .before .before .before .before .before .before .before .check .ensures) ∙ given-refused y _ _ (joinSays x y) (sym (ap answerSays (c .before .before .before .before .b .given .1 ∙ c .before .b2 .given .1)) ∙ c .before .before .before .before .before .before .check2 .ensures))
 
 returns-5 : tie.Need-returns-5
 returns-5 c =
@@ -87,7 +87,7 @@ returns-7 : tie.Need-returns-7
 returns-7 c =
     let x = c .before .before .before .before .before .before .before .before .before .before .before .before .before .before .before .args .x in
     let y = c .before .before .before .before .before .before .before .before .before .before .before .before .before .before .before .args .y in
-    let t = fits-refused (x .radix ^ (x .degree + y .degree)) _ (sym (ap answerSays (c .enum-told5 .given .1)) ∙ c .before .before .power .ensures) in
+    let t = fits-refused (x .radix ^ (x .degree + y .degree)) _ _ (sym (ap answerSays (c .enum-told5 .given .1)) ∙ c .before .before .power .ensures) in
     sym (concat-passed x y _ _ (sym (ap answerSays (c .before .before .before .before .before .before .before .before .before .before .before .before .a .given .1)) ∙ c .before .before .before .before .before .before .before .before .before .before .before .before .before .before .check .ensures) (sym (ap answerSays (c .before .before .before .before .before .before .before .before .enum-told2 .given .1)) ∙ c .before .before .before .before .before .before .before .before .before .before .check2 .ensures) ∙ simp (eq-eqb _ _ (c .before .before .before .before .before .before .if1 .left), le-ltb _ _ (c .before .before .before .if2 .left), t))
 
 mul-rank : tie.Need-mul-rank

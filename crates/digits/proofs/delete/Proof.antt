@@ -29,7 +29,7 @@ returns : tie.Need-returns
 returns c = search needs
 
 returns-2 : tie.Need-returns-2
-returns-2 c = sym (given-refused (c .before .before .before .before .before .before .before .args .x) _ (takeSays (c .before .before .before .before .before .before .before .args .x) (c .before .before .before .before .before .before .before .args .p)) (sym (ap answerSays (c .before .before .before .before .a .given .1 ∙ c .before .a2 .given .1)) ∙ c .before .before .before .before .before .before .check .ensures))
+returns-2 c = sym (given-refused (c .before .before .before .before .before .before .before .args .x) _ _ (takeSays (c .before .before .before .before .before .before .before .args .x) (c .before .before .before .before .before .before .before .args .p)) (sym (ap answerSays (c .before .before .before .before .a .given .1 ∙ c .before .a2 .given .1)) ∙ c .before .before .before .before .before .before .check .ensures))
 
 returns-3 : tie.Need-returns-3
 returns-3 c =
@@ -48,7 +48,7 @@ enum-told-3 c = search needs
 returns-4 : tie.Need-returns-4
 returns-4 c =
     let x = c .before .before .before .before .before .before .before .before .args .x in
-    stride-refused x _ (c .before .before .before .before .before .before .before .before .args .p) _ (known x _ (sym (ap answerSays (c .before .before .before .before .before .enum-told .given .1)) ∙ c .before .before .before .before .before .before .before .check .ensures)) (c .before .before .before .if1 .left) (sym (ap answerSays (c .enum-told3 .given .1)) ∙ c .before .before .power .ensures)
+    stride-refused x _ (c .before .before .before .before .before .before .before .before .args .p) _ _ (known x _ (sym (ap answerSays (c .before .before .before .before .before .enum-told .given .1)) ∙ c .before .before .before .before .before .before .before .check .ensures)) (c .before .before .before .if1 .left) (sym (ap answerSays (c .enum-told3 .given .1)) ∙ c .before .before .power .ensures)
 
 div-symbol : tie.Need-div-symbol
 div-symbol c =

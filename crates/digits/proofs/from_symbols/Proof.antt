@@ -32,7 +32,7 @@ returns-3 : tie.Need-returns-3
 returns-3 c =
     let n = c .before .before .before .before .before .before .before .args .radix in
     let w = c .before .before .before .before .before .before .before .args .symbols .now in
-    let t = fits-refused (n ^ length w) _ (sym (ap answerSays (c .enum-told2 .given .1)) ∙ c .before .before .power .ensures) in
+    let t = fits-refused (n ^ length w) _ _ (sym (ap answerSays (c .enum-told2 .given .1)) ∙ c .before .before .power .ensures) in
     simp (le-ltb _ _ (c .before .before .before .before .before .if1 .left), sym (c .before .before .before .before .reaches .ensures) ∙ c .before .before .before .if2 .left, t)
 
 number-requires : tie.Need-number-requires

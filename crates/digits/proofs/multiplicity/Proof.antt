@@ -24,7 +24,7 @@ enum-told c = search needs
 returns : tie.Need-returns
 returns c =
     let x = c .before .before .before .before .before .args .x in
-    ap answerSays (c .enum-told .given .1) ∙ sym (given-refused x _ (gives (multiplicityOf (c .before .before .before .before .before .args .s) (symbolsOf x))) (unspelt x _ (sym (ap answerSays (c .enum-told .given .1)) ∙ c .before .before .before .symbols .ensures .0)))
+    ap answerSays (c .enum-told .given .1) ∙ sym (given-refused x _ _ (gives (multiplicityOf (c .before .before .before .before .before .args .s) (symbolsOf x))) (unspelt x _ _ (sym (ap answerSays (c .enum-told .given .1)) ∙ c .before .before .before .symbols .ensures .0)))
 
 slice-aggregate-occurrences : tie.Need-slice-aggregate-occurrences
 slice-aggregate-occurrences c = search needs

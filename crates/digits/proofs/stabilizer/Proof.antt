@@ -25,7 +25,7 @@ enum-told c = search needs
 returns : tie.Need-returns
 returns c =
     let x = c .before .before .before .before .before .args .x in
-    ap answerSays (c .enum-told .given .1) ∙ sym (given-refused x _ (fits (stabilizerOf (symbolsOf x))) (unspelt x _ (sym (ap answerSays (c .enum-told .given .1)) ∙ c .before .before .before .symbols .ensures .0)))
+    ap answerSays (c .enum-told .given .1) ∙ sym (given-refused x _ _ (fits (stabilizerOf (symbolsOf x))) (unspelt x _ _ (sym (ap answerSays (c .enum-told .given .1)) ∙ c .before .before .before .symbols .ensures .0)))
 
 slice-aggregate-stabilizer-of : tie.Need-slice-aggregate-stabilizer-of
 slice-aggregate-stabilizer-of c = search needs

@@ -21,7 +21,7 @@ enum-told-2 : tie.Need-enum-told-2
 enum-told-2 c = search needs
 
 returns : tie.Need-returns
-returns c = ap answerSays (c .enum-told2 .given .1) ∙ sym (given-refused (c .before .before .before .args .x) _ (refusedIf (leb (c .before .before .before .args .x .degree) (c .before .before .before .args .p)) 7 (gives (getD (symbolsOf (c .before .before .before .args .x)) (c .before .before .before .args .p) 0))) (sym (ap answerSays (c .enum-told2 .given .1)) ∙ c .before .before .check .ensures))
+returns c = ap answerSays (c .enum-told2 .given .1) ∙ sym (given-refused (c .before .before .before .args .x) _ _ (refusedIf (leb (c .before .before .before .args .x .degree) (c .before .before .before .args .p)) 7 (gives (getD (symbolsOf (c .before .before .before .args .x)) (c .before .before .before .args .p) 0))) (sym (ap answerSays (c .enum-told2 .given .1)) ∙ c .before .before .check .ensures))
 
 returns-2 : tie.Need-returns-2
 returns-2 c = sym (given-passed (c .before .before .before .before .args .x) _ (refusedIf (leb (c .before .before .before .before .args .x .degree) (c .before .before .before .before .args .p)) 7 (gives (getD (symbolsOf (c .before .before .before .before .args .x)) (c .before .before .before .before .args .p) 0))) (sym (ap answerSays (c .before .enum-told .given .1)) ∙ c .before .before .before .check .ensures) ∙ simp (le-leb _ _ (c .if1 .taken)))
@@ -36,7 +36,7 @@ enum-told-3 : tie.Need-enum-told-3
 enum-told-3 c = search needs
 
 returns-3 : tie.Need-returns-3
-returns-3 c = stride-refused (c .before .before .before .before .before .before .before .args .x) _ (c .before .before .before .before .before .before .before .args .p) _ (known (c .before .before .before .before .before .before .before .args .x) _ (sym (ap answerSays (c .before .before .before .before .enum-told .given .1)) ∙ c .before .before .before .before .before .before .check .ensures)) (c .before .before .before .if1 .left) (sym (ap answerSays (c .enum-told3 .given .1)) ∙ c .before .before .power .ensures)
+returns-3 c = stride-refused (c .before .before .before .before .before .before .before .args .x) _ (c .before .before .before .before .before .before .before .args .p) _ _ (known (c .before .before .before .before .before .before .before .args .x) _ (sym (ap answerSays (c .before .before .before .before .enum-told .given .1)) ∙ c .before .before .before .before .before .before .check .ensures)) (c .before .before .before .if1 .left) (sym (ap answerSays (c .enum-told3 .given .1)) ∙ c .before .before .power .ensures)
 
 div-t11 : tie.Need-div-t11
 div-t11 c = stride-some (c .before .before .before .before .before .before .before .before .args .x) _ (c .before .before .before .before .before .before .before .before .args .p) _ (known (c .before .before .before .before .before .before .before .before .args .x) _ (sym (ap answerSays (c .before .before .before .before .before .enum-told .given .1)) ∙ c .before .before .before .before .before .before .before .check .ensures)) (c .before .before .before .before .if1 .left) (sym (ap answerSays (c .before .b .given .1)) ∙ c .before .before .before .power .ensures)

@@ -21,7 +21,7 @@ enum-told-2 c = search needs
 
 returns : tie.Need-returns
 returns c =
-    let u = given-refused (c .before .before .before .before .args .x) _ (refusedIf (ltb (length (c .before .before .before .before .args .out .now)) (c .before .before .before .before .args .x .degree)) 8 (gives (symbolsOf (c .before .before .before .before .args .x)))) (sym (ap answerSays (c .enum-told2 .given .1)) ∙ c .before .before .check .ensures) in
+    let u = given-refused (c .before .before .before .before .args .x) _ _ (refusedIf (ltb (length (c .before .before .before .before .args .out .now)) (c .before .before .before .before .args .x .degree)) 8 (gives (symbolsOf (c .before .before .before .before .args .x)))) (sym (ap answerSays (c .enum-told2 .given .1)) ∙ c .before .before .check .ensures) in
     (ap answerSays (c .enum-told2 .given .1) ∙ sym (ap placesOf u), sym (ap (λ s. after s (c .before .before .before .before .args .out .now)) u))
 
 returns-2 : tie.Need-returns-2
