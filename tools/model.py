@@ -1,5 +1,5 @@
 #!/usr/bin/env python3
-"""An independent model of document 01, written from the document alone. It answers what the programs answer:
+"""An independent model of documents 01 and 02, written from the documents alone. It answers what the programs answer:
 
     model.py terms < crates/terms_cases/stdin    what 01's program writes for each line of the input
     model.py ask < crates/ask/stdin              the answer of `ask` to each line of the input
@@ -16,12 +16,15 @@ FAMILY_DIFFERS, OUTSIDE, SHAPE, TOO_BIG, NOT_A_PERMUTATION = 6, 7, 8, 9, 10
 
 
 class Refused(Exception):
-    pass
+    """A refusal by its number and, for 2, the position that it carries."""
+
+    def __str__(self):
+        return " at ".join(map(str, self.args))
 
 
-def refuse_if(test, number):
+def refuse_if(test, number, *place):
     if test:
-        raise Refused(number)
+        raise Refused(number, *place)
 
 
 # ---- words, ranks and indices
@@ -76,8 +79,8 @@ def unrank_any(family, k, r):
 
 def pack(family, word):
     refuse_if(len(word) > 64, TOO_WIDE)
-    rising = all(x < y if family == "forbidden" else x <= y for x, y in zip(word, word[1:]))
-    refuse_if(not rising, NOT_MONOTONE)
+    for p in range(1, len(word)):
+        refuse_if(word[p] < word[p - 1] or family == "forbidden" and word[p] == word[p - 1], NOT_MONOTONE, p)
     shifted = [x + shift(family, i) for i, x in enumerate(word)]
     refuse_if(word and shifted[-1] > 63, TOO_WIDE)
     return bits_of(shifted)

@@ -30,9 +30,15 @@ pub fn bad(out: &mut [u8], at: usize) -> usize {
     text::put(out, at, b"bad line\n")
 }
 
+// A refusal by its number, with its place where it carries one.
 fn refusal(out: &mut [u8], at: usize, e: Refusal) -> usize {
     let at = text::put(out, at, b"refused ");
-    number(out, at, answers::number(e))
+    if !answers::carries(e) {
+        return number(out, at, answers::number(e));
+    }
+    let at = text::put_number(out, at, answers::number(e));
+    let at = text::put(out, at, b" at ");
+    number(out, at, answers::place(e))
 }
 
 fn number(out: &mut [u8], at: usize, n: u64) -> usize {
