@@ -8,14 +8,15 @@
  *
  * ONE RULE
  *
- * Each function returns a refusal number: 0 (GUDRENOSS_OK) for an answer, otherwise the reason why there is none. The results go
- * to places of the caller's, which are the last parameters. They are written only on an answer: after a refusal every place and
- * every buffer holds what it held. The checks run in the order in which they are listed, the first that fails gives the number,
- * and nothing else is refused. No function has a precondition on its numbers: any value may be passed.
+ * Each function returns a gudrenoss_refusal, two numbers by value. Its number is 0 (GUDRENOSS_OK) for an answer, otherwise the
+ * reason why there is none; its place, at, is 0 except where a check below says what it is. The results go to places of the
+ * caller's, which are the last parameters. They are written only on an answer: after a refusal every place and every buffer holds
+ * what it held. The checks run in the order in which they are listed, the first that fails gives the number, and nothing else is
+ * refused. No function has a precondition on its numbers: any value may be passed.
  *
  *     uint64_t rank;
- *     uint64_t refusal = gudrenoss_rank(true, word, 2, &rank);
- *     if (refusal != GUDRENOSS_OK) { ... rank is untouched ... }
+ *     gudrenoss_refusal refusal = gudrenoss_rank(true, word, 2, &rank);
+ *     if (refusal.number != GUDRENOSS_OK) { ... rank is untouched ... }
  *
  * WORDS
  *
@@ -74,11 +75,26 @@
 extern "C" {
 #endif
 
-/* What a function returns. */
-enum gudrenoss_refusal {
+/* A result that must be looked at: a compiler that can tell warns where it is not. The functions that are never refused go without. */
+#if (defined __cplusplus && __cplusplus >= 201703L) || (defined __STDC_VERSION__ && __STDC_VERSION__ >= 202311L)
+#define GUDRENOSS_MUST_USE [[nodiscard]]
+#elif defined __GNUC__
+#define GUDRENOSS_MUST_USE __attribute__((warn_unused_result))
+#else
+#define GUDRENOSS_MUST_USE
+#endif
+
+/* What every function returns, by value: on x86-64 in two registers. */
+typedef struct gudrenoss_refusal {
+    uint64_t number; /* one of the numbers below; 0 is an answer */
+    uint64_t at;     /* the place that the refusal tells: for 2 the position at which the word breaks its rule; otherwise 0 */
+} gudrenoss_refusal;
+
+/* The number of a refusal. */
+enum gudrenoss_number {
     GUDRENOSS_OK = 0,                 /* no refusal: the results are written */
     GUDRENOSS_TOO_WIDE = 1,           /* a limit on width is passed */
-    GUDRENOSS_NOT_MONOTONE = 2,       /* a word breaks its family's rule */
+    GUDRENOSS_NOT_MONOTONE = 2,       /* a word breaks its family's rule; at tells where */
     GUDRENOSS_NO_SUCH_RANK = 3,       /* a rank is not below the count */
     GUDRENOSS_LAST = 4,               /* there is no next word, or the walk is finished */
     GUDRENOSS_REPEATED = 5,           /* a Forbidden symbol occurs twice */
@@ -101,42 +117,45 @@ typedef struct gudrenoss_permutation {
  *   1  k > 64, or the shifted alphabet of n and k is above 64
  *   *count: the binomial coefficient of the shifted alphabet over k
  * Of Allowed 3 2 there are 6. */
-uint64_t gudrenoss_count(bool allowed, uint64_t n, uint64_t k, uint64_t *count);
+GUDRENOSS_MUST_USE gudrenoss_refusal gudrenoss_count(bool allowed, uint64_t n, uint64_t k, uint64_t *count);
 
 /* The index of a word.
  *   1  the word has more than 64 symbols
- *   2  the word breaks the family's rule
+ *   2  the word breaks the family's rule; at: the first position whose symbol may not stand after its neighbour
  *   1  its last shifted symbol is above 63
  *   *bits: the set of the shifted symbols
- * Allowed (0, 2) is bits 9. */
-uint64_t gudrenoss_pack(bool allowed, const uint64_t *word, size_t word_len, uint64_t *bits);
+ * Allowed (0, 2) is bits 9. Allowed (3, 5, 4, 1) is refused 2 at 2. */
+GUDRENOSS_MUST_USE gudrenoss_refusal gudrenoss_pack(
+    bool allowed, const uint64_t *word, size_t word_len, uint64_t *bits);
 
 /* The word of an index.
  *   8  word_room is below the degree
  *   word: the symbols, shift taken off;  *written: the degree
  * Allowed bits 25 is 0 2 2. */
-uint64_t gudrenoss_unpack(bool allowed, uint64_t bits, uint64_t *word, size_t word_room, uint64_t *written);
+GUDRENOSS_MUST_USE gudrenoss_refusal gudrenoss_unpack(
+    bool allowed, uint64_t bits, uint64_t *word, size_t word_room, uint64_t *written);
 
 /* The degree of an index. Never refused.
  *   *degree: the number of ones among the bits */
-uint64_t gudrenoss_degree(bool allowed, uint64_t bits, uint64_t *degree);
+gudrenoss_refusal gudrenoss_degree(bool allowed, uint64_t bits, uint64_t *degree);
 
 /* The symbol at position p of an index's word.
  *   7  p is not below the degree
  *   *symbol: the symbol, shift taken off */
-uint64_t gudrenoss_symbol(bool allowed, uint64_t bits, uint64_t p, uint64_t *symbol);
+GUDRENOSS_MUST_USE gudrenoss_refusal gudrenoss_symbol(bool allowed, uint64_t bits, uint64_t p, uint64_t *symbol);
 
 /* The rank of a word.
  *   1  the word has more than 64 symbols
- *   2  the word breaks the family's rule
+ *   2  the word breaks the family's rule; at: the first position whose symbol may not stand after its neighbour
  *   1  its last shifted symbol is above 63
  *   *rank: the rank
  * Allowed (1, 1) has rank 2. */
-uint64_t gudrenoss_rank(bool allowed, const uint64_t *word, size_t word_len, uint64_t *rank);
+GUDRENOSS_MUST_USE gudrenoss_refusal gudrenoss_rank(
+    bool allowed, const uint64_t *word, size_t word_len, uint64_t *rank);
 
 /* The rank of the word of an index. Never refused.
  *   *rank: the rank */
-uint64_t gudrenoss_rank_of(bool allowed, uint64_t bits, uint64_t *rank);
+gudrenoss_refusal gudrenoss_rank_of(bool allowed, uint64_t bits, uint64_t *rank);
 
 /* The word of k symbols below n that has rank r.
  *   1  k > 64, or the shifted alphabet of n and k is above 64
@@ -144,33 +163,34 @@ uint64_t gudrenoss_rank_of(bool allowed, uint64_t bits, uint64_t *rank);
  *   8  word_room is below k
  *   word: the word;  *written: k
  * Allowed 3 2 has the word 0 2 at rank 3. */
-uint64_t gudrenoss_unrank(
+GUDRENOSS_MUST_USE gudrenoss_refusal gudrenoss_unrank(
     bool allowed, uint64_t n, uint64_t k, uint64_t r, uint64_t *word, size_t word_room, uint64_t *written);
 
 /* The same as an index.
  *   1  k > 64, or the shifted alphabet of n and k is above 64
  *   3  r is not below the count of n and k
  *   *bits: the index's bits */
-uint64_t gudrenoss_unrank_over(bool allowed, uint64_t n, uint64_t k, uint64_t r, uint64_t *bits);
+GUDRENOSS_MUST_USE gudrenoss_refusal gudrenoss_unrank_over(
+    bool allowed, uint64_t n, uint64_t k, uint64_t r, uint64_t *bits);
 
 /* The index of degree k that has rank r, with no alphabet named: all 64 bits may be used.
  *   1  k > 64
  *   3  r is not below the binomial coefficient of 64 over k
  *   *bits: the index's bits */
-uint64_t gudrenoss_unrank_any(bool allowed, uint64_t k, uint64_t r, uint64_t *bits);
+GUDRENOSS_MUST_USE gudrenoss_refusal gudrenoss_unrank_any(bool allowed, uint64_t k, uint64_t r, uint64_t *bits);
 
 /* The next index of the same family and degree. Only the 64 bits bound it.
  *   4  no index of that degree is later (so for bits 0)
  *   *next: its bits
  * After bits 3 comes 5. */
-uint64_t gudrenoss_successor(bool allowed, uint64_t bits, uint64_t *next);
+GUDRENOSS_MUST_USE gudrenoss_refusal gudrenoss_successor(bool allowed, uint64_t bits, uint64_t *next);
 
 /* A walk goes through all words of a family with k symbols below n, in order of rank. It is three variables of the caller's:
  * whether it stands at an index, the bits of that index (0 if it stands nowhere), and how many indices it has still to give. The
  * family is for the caller to remember.
  *   1  k > 64, or the shifted alphabet of n and k is above 64
  *   *standing, *at: the first index, or false and 0 if there are no words;  *remaining: the count */
-uint64_t gudrenoss_walk_start(
+GUDRENOSS_MUST_USE gudrenoss_refusal gudrenoss_walk_start(
     bool allowed, uint64_t n, uint64_t k, bool *standing, uint64_t *at, uint64_t *remaining);
 
 /* One step of a walk. It reads the three variables, gives the index at which the walk stands, and moves them on.
@@ -178,7 +198,8 @@ uint64_t gudrenoss_walk_start(
  *   *bits: the index at which the walk stood;  *standing, *at: the next index of its degree in 64 bits, or false and 0 if there is
  *   none;  *remaining: one fewer
  * A state that the caller made up is stepped by the same rule. */
-uint64_t gudrenoss_walk_step(bool allowed, bool *standing, uint64_t *at, uint64_t *remaining, uint64_t *bits);
+GUDRENOSS_MUST_USE gudrenoss_refusal gudrenoss_walk_step(
+    bool allowed, bool *standing, uint64_t *at, uint64_t *remaining, uint64_t *bits);
 
 /* ---- Signed operations ------------------------------------------------------------------------------------------------------ */
 
@@ -188,7 +209,7 @@ uint64_t gudrenoss_walk_step(bool allowed, bool *standing, uint64_t *at, uint64_
  *   1  the last shifted symbol of the sorted word is above 63
  *   *minus: whether the number of inversions is odd, false for Allowed;  *bits: the index of the sorted word
  * Forbidden (2, 0) is minus, bits 5. */
-uint64_t gudrenoss_canonicalise(
+GUDRENOSS_MUST_USE gudrenoss_refusal gudrenoss_canonicalise(
     bool allowed, const uint64_t *word, size_t word_len, bool *minus, uint64_t *bits);
 
 /* The two words of one family joined into one sorted word.
@@ -197,7 +218,7 @@ uint64_t gudrenoss_canonicalise(
  *   1  Allowed, and a shifted symbol of the joined word is above 63
  *   *minus: whether the number of pairs with the left symbol larger is odd, false for Allowed;  *bits: the joined word's index
  * Allowed bits 9 with bits 4, that is (0, 2) with (2), is plus, bits 25. */
-uint64_t gudrenoss_merge(
+GUDRENOSS_MUST_USE gudrenoss_refusal gudrenoss_merge(
     bool left_allowed, uint64_t left_bits, bool right_allowed, uint64_t right_bits, bool *minus,
     uint64_t *bits);
 
@@ -205,7 +226,7 @@ uint64_t gudrenoss_merge(
  *   7  p is not below the degree
  *   *minus: whether p is odd, false for Allowed;  *symbol: the symbol, shift taken off;  *rest: the index of what is left
  * Allowed bits 22 at position 1 is plus, symbol 1, bits 10. */
-uint64_t gudrenoss_delete(
+GUDRENOSS_MUST_USE gudrenoss_refusal gudrenoss_delete(
     bool allowed, uint64_t bits, uint64_t p, bool *minus, uint64_t *symbol, uint64_t *rest);
 
 /* The symbols below n that a Forbidden index does not have.
@@ -214,12 +235,13 @@ uint64_t gudrenoss_delete(
  *   7  the index has a symbol that is n or more
  *   *minus: the sign of the merge of the index with its complement;  *rest: the complement, a Forbidden index
  * Of bits 5 in 4 it is minus, bits 10. */
-uint64_t gudrenoss_complement(bool allowed, uint64_t bits, uint64_t n, bool *minus, uint64_t *rest);
+GUDRENOSS_MUST_USE gudrenoss_refusal gudrenoss_complement(
+    bool allowed, uint64_t bits, uint64_t n, bool *minus, uint64_t *rest);
 
 /* The product of the factorials of the multiplicities of the word's symbols.
  *   9  the product is 2^64 or more
  *   *stabilizer: the product, 1 for every Forbidden index */
-uint64_t gudrenoss_stabilizer(bool allowed, uint64_t bits, uint64_t *stabilizer);
+GUDRENOSS_MUST_USE gudrenoss_refusal gudrenoss_stabilizer(bool allowed, uint64_t bits, uint64_t *stabilizer);
 
 /* ---- Sets ------------------------------------------------------------------------------------------------------------------- */
 
@@ -227,22 +249,22 @@ uint64_t gudrenoss_stabilizer(bool allowed, uint64_t bits, uint64_t *stabilizer)
  *   7  s > 63
  *   5  s is a member
  *   *with: the larger set */
-uint64_t gudrenoss_set_insert(uint64_t set, uint64_t s, uint64_t *with);
+GUDRENOSS_MUST_USE gudrenoss_refusal gudrenoss_set_insert(uint64_t set, uint64_t s, uint64_t *with);
 
 /* Whether s is a member. Never refused.
  *   *contains: the answer, false from 64 up */
-uint64_t gudrenoss_set_contains(uint64_t set, uint64_t s, bool *contains);
+gudrenoss_refusal gudrenoss_set_contains(uint64_t set, uint64_t s, bool *contains);
 
 /* Where a member stands among the members.
  *   7  s is not a member
  *   *position: how many members are below s */
-uint64_t gudrenoss_set_position(uint64_t set, uint64_t s, uint64_t *position);
+GUDRENOSS_MUST_USE gudrenoss_refusal gudrenoss_set_position(uint64_t set, uint64_t s, uint64_t *position);
 
 /* The members that stand at the given positions, which are themselves a set.
  *   7  a position is not below the number of members
  *   *selected: the set of these members
  * Of bits 42 at positions 5, that is {1, 3, 5} at 0 and 2, it is bits 34. */
-uint64_t gudrenoss_set_select(uint64_t set, uint64_t positions, uint64_t *selected);
+GUDRENOSS_MUST_USE gudrenoss_refusal gudrenoss_set_select(uint64_t set, uint64_t positions, uint64_t *selected);
 
 /* ---- Permutations ----------------------------------------------------------------------------------------------------------- */
 
@@ -254,45 +276,46 @@ uint64_t gudrenoss_set_select(uint64_t set, uint64_t positions, uint64_t *select
  *   10 p is no permutation
  *   7  i is not below the length
  *   *entry: p.entries[i] */
-uint64_t gudrenoss_permutation_image(gudrenoss_permutation p, uint64_t i, uint64_t *entry);
+GUDRENOSS_MUST_USE gudrenoss_refusal gudrenoss_permutation_image(gudrenoss_permutation p, uint64_t i, uint64_t *entry);
 
 /* The inverse.
  *   1  the length is above 20
  *   10 p is no permutation
  *   entries: the permutation that sends p.entries[i] to i, then zeros */
-uint64_t gudrenoss_permutation_inverse(gudrenoss_permutation p, uint64_t entries[20]);
+GUDRENOSS_MUST_USE gudrenoss_refusal gudrenoss_permutation_inverse(gudrenoss_permutation p, uint64_t entries[20]);
 
 /* p after q.
  *   1  either length is above 20
  *   8  the lengths differ
  *   10 either is no permutation
  *   entries: the permutation that sends i to p(q(i)), then zeros */
-uint64_t gudrenoss_permutation_compose(gudrenoss_permutation p, gudrenoss_permutation q, uint64_t entries[20]);
+GUDRENOSS_MUST_USE gudrenoss_refusal gudrenoss_permutation_compose(
+    gudrenoss_permutation p, gudrenoss_permutation q, uint64_t entries[20]);
 
 /* The sign.
  *   1  the length is above 20
  *   10 p is no permutation
  *   *minus: whether the number of inversions is odd */
-uint64_t gudrenoss_permutation_sign(gudrenoss_permutation p, bool *minus);
+GUDRENOSS_MUST_USE gudrenoss_refusal gudrenoss_permutation_sign(gudrenoss_permutation p, bool *minus);
 
 /* The rank among the permutations of that length.
  *   1  the length is above 20
  *   10 p is no permutation
  *   *rank: the rank; of (0, 2, 1) it is 3 */
-uint64_t gudrenoss_permutation_rank(gudrenoss_permutation p, uint64_t *rank);
+GUDRENOSS_MUST_USE gudrenoss_refusal gudrenoss_permutation_rank(gudrenoss_permutation p, uint64_t *rank);
 
 /* The permutation of length n that has rank r.
  *   1  n > 20
  *   3  r is not below n!
  *   entries: the permutation, then zeros */
-uint64_t gudrenoss_permutation_unrank(uint64_t n, uint64_t r, uint64_t entries[20]);
+GUDRENOSS_MUST_USE gudrenoss_refusal gudrenoss_permutation_unrank(uint64_t n, uint64_t r, uint64_t entries[20]);
 
 /* The permutation of the next rank.
  *   1  the length is above 20
  *   10 p is no permutation
  *   4  p is the last of its length, the identity
  *   entries: the next permutation, then zeros */
-uint64_t gudrenoss_permutation_successor(gudrenoss_permutation p, uint64_t entries[20]);
+GUDRENOSS_MUST_USE gudrenoss_refusal gudrenoss_permutation_successor(gudrenoss_permutation p, uint64_t entries[20]);
 
 /* ---- Shapes ----------------------------------------------------------------------------------------------------------------- */
 
@@ -304,7 +327,8 @@ uint64_t gudrenoss_permutation_successor(gudrenoss_permutation p, uint64_t entri
  *   1  there are more than 16 axes
  *   9  by partial products
  *   *count: the product of the radices */
-uint64_t gudrenoss_shape_count(const uint64_t *radices, size_t radices_len, uint64_t *count);
+GUDRENOSS_MUST_USE gudrenoss_refusal gudrenoss_shape_count(
+    const uint64_t *radices, size_t radices_len, uint64_t *count);
 
 /* The strides.
  *   1  there are more than 16 axes
@@ -312,7 +336,7 @@ uint64_t gudrenoss_shape_count(const uint64_t *radices, size_t radices_len, uint
  *   8  strides_room is below the number of axes
  *   strides: the stride of each axis;  *written: the number of axes
  * Of (2, 3, 4) they are 1 2 6. */
-uint64_t gudrenoss_shape_strides(
+GUDRENOSS_MUST_USE gudrenoss_refusal gudrenoss_shape_strides(
     const uint64_t *radices, size_t radices_len, uint64_t *strides, size_t strides_room, uint64_t *written);
 
 /* The number of a list of digits.
@@ -322,7 +346,7 @@ uint64_t gudrenoss_shape_strides(
  *   9  by partial products
  *   *number: the sum of each digit times its stride
  * Of (1, 2, 3) in (2, 3, 4) it is 23. */
-uint64_t gudrenoss_shape_linearize(
+GUDRENOSS_MUST_USE gudrenoss_refusal gudrenoss_shape_linearize(
     const uint64_t *radices, size_t radices_len, const uint64_t *digits, size_t digits_len, uint64_t *number);
 
 /* The digits of a number.
@@ -331,7 +355,7 @@ uint64_t gudrenoss_shape_linearize(
  *   3  the number is not below the shape's count
  *   8  digits_room is below the number of axes
  *   digits: the digit of each axis;  *written: the number of axes */
-uint64_t gudrenoss_shape_delinearize(
+GUDRENOSS_MUST_USE gudrenoss_refusal gudrenoss_shape_delinearize(
     const uint64_t *radices, size_t radices_len, uint64_t number, uint64_t *digits, size_t digits_room,
     uint64_t *written);
 
@@ -340,7 +364,8 @@ uint64_t gudrenoss_shape_delinearize(
  *   7  a member of the set is not below the number of axes
  *   9  the sum is 2^64 or more
  *   *offset: the sum */
-uint64_t gudrenoss_shape_corner(const uint64_t *radices, size_t radices_len, uint64_t axes, uint64_t *offset);
+GUDRENOSS_MUST_USE gudrenoss_refusal gudrenoss_shape_corner(
+    const uint64_t *radices, size_t radices_len, uint64_t axes, uint64_t *offset);
 
 /* ---- Digit words ------------------------------------------------------------------------------------------------------------ */
 
@@ -354,7 +379,7 @@ uint64_t gudrenoss_shape_corner(const uint64_t *radices, size_t radices_len, uin
  *   1  the degree is above 64
  *   9  radix^degree is 2^64 or more
  *   *count: radix^degree */
-uint64_t gudrenoss_digits_count(uint64_t radix, uint64_t degree, uint64_t *count);
+GUDRENOSS_MUST_USE gudrenoss_refusal gudrenoss_digits_count(uint64_t radix, uint64_t degree, uint64_t *count);
 
 /* The digit word of a list of symbols.
  *   1  there are more than 64 symbols
@@ -362,33 +387,36 @@ uint64_t gudrenoss_digits_count(uint64_t radix, uint64_t degree, uint64_t *count
  *   9  radix to the number of symbols is 2^64 or more
  *   *degree: the number of symbols;  *rank: the rank
  * Of radix 3 and (2, 0, 1) it is 11. */
-uint64_t gudrenoss_digits_from_symbols(
+GUDRENOSS_MUST_USE gudrenoss_refusal gudrenoss_digits_from_symbols(
     uint64_t radix, const uint64_t *symbols, size_t symbols_len, uint64_t *degree, uint64_t *rank);
 
 /* The symbols of a digit word.
  *   1, 9, 3  the word's checks
  *   8  symbols_room is below the degree
  *   symbols: the symbols;  *written: the degree */
-uint64_t gudrenoss_digits_symbols(
-    uint64_t radix, uint64_t degree, uint64_t rank, uint64_t *symbols, size_t symbols_room, uint64_t *written);
+GUDRENOSS_MUST_USE gudrenoss_refusal gudrenoss_digits_symbols(
+    uint64_t radix, uint64_t degree, uint64_t rank, uint64_t *symbols, size_t symbols_room,
+    uint64_t *written);
 
 /* The symbol at position p.
  *   1, 9, 3  the word's checks
  *   7  p is not below the degree
  *   *symbol: the symbol */
-uint64_t gudrenoss_digits_symbol(uint64_t radix, uint64_t degree, uint64_t rank, uint64_t p, uint64_t *symbol);
+GUDRENOSS_MUST_USE gudrenoss_refusal gudrenoss_digits_symbol(
+    uint64_t radix, uint64_t degree, uint64_t rank, uint64_t p, uint64_t *symbol);
 
 /* How often s occurs.
  *   1, 9, 3  the word's checks
  *   *multiplicity: how often, 0 if s is not below the radix */
-uint64_t gudrenoss_digits_multiplicity(
+GUDRENOSS_MUST_USE gudrenoss_refusal gudrenoss_digits_multiplicity(
     uint64_t radix, uint64_t degree, uint64_t rank, uint64_t s, uint64_t *multiplicity);
 
 /* The product of the factorials of the multiplicities.
  *   1, 9, 3  the word's checks
  *   9  the product is 2^64 or more
  *   *stabilizer: the product */
-uint64_t gudrenoss_digits_stabilizer(uint64_t radix, uint64_t degree, uint64_t rank, uint64_t *stabilizer);
+GUDRENOSS_MUST_USE gudrenoss_refusal gudrenoss_digits_stabilizer(
+    uint64_t radix, uint64_t degree, uint64_t rank, uint64_t *stabilizer);
 
 /* Two digit words joined, the left one's digits lowest.
  *   1, 9, 3  the left word's checks
@@ -397,15 +425,15 @@ uint64_t gudrenoss_digits_stabilizer(uint64_t radix, uint64_t degree, uint64_t r
  *   1  the degrees sum to more than 64
  *   9  radix to that sum is 2^64 or more
  *   *degree: the sum of the degrees;  *rank: the rank of the joined word, of the same radix */
-uint64_t gudrenoss_digits_concat(
-    uint64_t left_radix, uint64_t left_degree, uint64_t left_rank, uint64_t right_radix, uint64_t right_degree,
-    uint64_t right_rank, uint64_t *degree, uint64_t *rank);
+GUDRENOSS_MUST_USE gudrenoss_refusal gudrenoss_digits_concat(
+    uint64_t left_radix, uint64_t left_degree, uint64_t left_rank, uint64_t right_radix,
+    uint64_t right_degree, uint64_t right_rank, uint64_t *degree, uint64_t *rank);
 
 /* The symbol at position p taken out, the gap closed.
  *   1, 9, 3  the word's checks
  *   7  p is not below the degree
  *   *symbol: the symbol;  *rest: the rank of what is left, a word of the same radix and one degree fewer */
-uint64_t gudrenoss_digits_delete(
+GUDRENOSS_MUST_USE gudrenoss_refusal gudrenoss_digits_delete(
     uint64_t radix, uint64_t degree, uint64_t rank, uint64_t p, uint64_t *symbol, uint64_t *rest);
 
 /* ---- Exponents -------------------------------------------------------------------------------------------------------------- */
@@ -419,7 +447,7 @@ uint64_t gudrenoss_digits_delete(
  *   8  word_room is below k
  *   word: the word;  *written: k
  * Of (1, 0, 2) it is 0 2 2. */
-uint64_t gudrenoss_exponents_word(
+GUDRENOSS_MUST_USE gudrenoss_refusal gudrenoss_exponents_word(
     const uint64_t *entries, size_t entries_len, uint64_t *word, size_t word_room, uint64_t *written);
 
 /* The exponent list of n entries of a word that is given in any order.
@@ -427,21 +455,22 @@ uint64_t gudrenoss_exponents_word(
  *   7  a symbol is not below n
  *   8  entries_room is below n
  *   entries: how often each symbol occurs;  *written: n */
-uint64_t gudrenoss_exponents_from_word(
+GUDRENOSS_MUST_USE gudrenoss_refusal gudrenoss_exponents_from_word(
     uint64_t n, const uint64_t *word, size_t word_len, uint64_t *entries, size_t entries_room,
     uint64_t *written);
 
 /* The rank of the word of an exponent list.
  *   1  the list is too wide
  *   *rank: the rank */
-uint64_t gudrenoss_exponents_rank(const uint64_t *entries, size_t entries_len, uint64_t *rank);
+GUDRENOSS_MUST_USE gudrenoss_refusal gudrenoss_exponents_rank(
+    const uint64_t *entries, size_t entries_len, uint64_t *rank);
 
 /* The exponent list of n entries and sum k whose word has rank r.
  *   1  n entries with sum k are too wide
  *   3  r is not below the count of Allowed n and k
  *   8  entries_room is below n
  *   entries: the list;  *written: n */
-uint64_t gudrenoss_exponents_from_rank(
+GUDRENOSS_MUST_USE gudrenoss_refusal gudrenoss_exponents_from_rank(
     uint64_t n, uint64_t k, uint64_t r, uint64_t *entries, size_t entries_room, uint64_t *written);
 
 /* The sum of two exponent lists, which is the product of their terms.
@@ -451,9 +480,9 @@ uint64_t gudrenoss_exponents_from_rank(
  *   1  their sum is too wide
  *   8  entries_room is below the number of entries
  *   entries: the sums;  *written: the number of entries */
-uint64_t gudrenoss_exponents_add(
-    const uint64_t *left, size_t left_len, const uint64_t *right, size_t right_len,
-    uint64_t *entries, size_t entries_room, uint64_t *written);
+GUDRENOSS_MUST_USE gudrenoss_refusal gudrenoss_exponents_add(
+    const uint64_t *left, size_t left_len, const uint64_t *right, size_t right_len, uint64_t *entries,
+    size_t entries_room, uint64_t *written);
 
 #ifdef __cplusplus
 }

@@ -14,54 +14,57 @@ static const double gain[blocks] = {1.000, 1.004, 0.998, 1.011, 1.002, 0.995, 1.
 static const double coefficient[terms] = {0.25, -0.50, 0.125, 1.00, 0.75, -0.0625};
 
 /* The block of a set of live sensors. */
-static uint64_t block_of(const uint64_t *live, size_t live_len, uint64_t *block)
+static gudrenoss_refusal block_of(const uint64_t *live, size_t live_len, uint64_t *block)
 {
     bool reordered;
     uint64_t set, count;
-    uint64_t refusal = gudrenoss_canonicalise(false, live, live_len, &reordered, &set);
-    if (refusal == GUDRENOSS_OK)
+    gudrenoss_refusal refusal = gudrenoss_canonicalise(false, live, live_len, &reordered, &set);
+    if (refusal.number == GUDRENOSS_OK)
         refusal = gudrenoss_count(false, sensors, live_len, &count);
-    if (refusal == GUDRENOSS_OK)
+    if (refusal.number == GUDRENOSS_OK)
         refusal = gudrenoss_rank_of(false, set, block);
-    if (refusal == GUDRENOSS_OK && (live_len != needed || *block >= count))
-        refusal = GUDRENOSS_NO_SUCH_RANK;
+    if (refusal.number == GUDRENOSS_OK && (live_len != needed || *block >= count))
+        refusal.number = GUDRENOSS_NO_SUCH_RANK;
     return refusal;
 }
 
 /* The polynomial: a walk over all terms, in order of rank. */
-static uint64_t mass_of(const double reading[readings], double *mass)
+static gudrenoss_refusal mass_of(const double reading[readings], double *mass)
 {
     bool standing;
     uint64_t at, remaining, bits, rank, word[degree], len;
-    uint64_t refusal = gudrenoss_walk_start(true, readings, degree, &standing, &at, &remaining);
+    gudrenoss_refusal refusal = gudrenoss_walk_start(true, readings, degree, &standing, &at, &remaining);
     double sum = 0;
-    while (refusal == GUDRENOSS_OK && remaining > 0) {
+    while (refusal.number == GUDRENOSS_OK && remaining > 0) {
         refusal = gudrenoss_walk_step(true, &standing, &at, &remaining, &bits);
-        if (refusal == GUDRENOSS_OK)
+        if (refusal.number == GUDRENOSS_OK)
             refusal = gudrenoss_rank_of(true, bits, &rank);
-        if (refusal == GUDRENOSS_OK)
+        if (refusal.number == GUDRENOSS_OK)
             refusal = gudrenoss_unpack(true, bits, word, degree, &len);
-        if (refusal == GUDRENOSS_OK)
+        if (refusal.number == GUDRENOSS_OK)
             sum += coefficient[rank] * reading[word[0]] * reading[word[1]];
     }
-    if (refusal == GUDRENOSS_OK)
+    if (refusal.number == GUDRENOSS_OK)
         *mass = sum;
     return refusal;
 }
 
 int main(void)
 {
-    const uint64_t live[] = {4, 0, 3}, twice[] = {4, 0, 4}, term[] = {0, 2};
+    const uint64_t live[] = {4, 0, 3}, twice[] = {4, 0, 4}, term[] = {0, 2}, unsorted[] = {0, 2, 1};
     const double reading[readings] = {2.0, 1.5, 4.0};
     uint64_t block, rank;
     double mass;
+    gudrenoss_refusal refusal;
 
-    if (block_of(live, 3, &block) != GUDRENOSS_OK || gudrenoss_rank(true, term, degree, &rank) != GUDRENOSS_OK
-        || mass_of(reading, &mass) != GUDRENOSS_OK)
+    if (block_of(live, 3, &block).number != GUDRENOSS_OK || gudrenoss_rank(true, term, degree, &rank).number != GUDRENOSS_OK
+        || mass_of(reading, &mass).number != GUDRENOSS_OK)
         return 1;
     printf("sensors 0, 3 and 4 are live: calibration block %u of %u\n", (unsigned)block, (unsigned)blocks);
     printf("the term p w has coefficient number %u: %.3f\n", (unsigned)rank, coefficient[rank]);
     printf("mass %.6f, calibrated %.6f\n", mass, gain[block] * mass);
-    printf("sensor 4 named twice: refusal %u\n", (unsigned)block_of(twice, 3, &block));
+    printf("sensor 4 named twice: refusal %u\n", (unsigned)block_of(twice, 3, &block).number);
+    refusal = gudrenoss_rank(true, unsorted, 3, &rank);
+    printf("the term p w t, unsorted: refusal %u at position %u\n", (unsigned)refusal.number, (unsigned)refusal.at);
     return 0;
 }

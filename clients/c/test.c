@@ -89,9 +89,10 @@ static bool same_list(const struct list *a, const struct list *b)
 }
 
 /* The places are as `before` says, which has by now the answer in it. */
-static void look(int line, uint64_t back, uint64_t wanted)
+static void look(int line, gudrenoss_refusal back, uint64_t number, uint64_t at)
 {
-    check(line, back == wanted, "the refusal");
+    check(line, back.number == number, "the refusal's number");
+    check(line, back.at == at, "the refusal's place");
     check(line, lent.number_0 == before.number_0 && lent.number_1 == before.number_1 && lent.number_2 == before.number_2, "a number");
     check(line, lent.flag == before.flag, "a truth value");
     check(line, lent.guard_0 == before.guard_0 && lent.guard_1 == before.guard_1 && lent.guard_2 == before.guard_2
@@ -101,36 +102,42 @@ static void look(int line, uint64_t back, uint64_t wanted)
     fresh();
 }
 
-static void looks_refused(int line, uint64_t back, enum gudrenoss_refusal wanted)
+static void looks_refused(int line, gudrenoss_refusal back, enum gudrenoss_number number)
 {
-    look(line, back, wanted);
+    look(line, back, number, 0);
 }
 
-static void looks_number(int line, uint64_t back, uint64_t x)
+/* The word breaks its rule at a position. */
+static void looks_broken(int line, gudrenoss_refusal back, uint64_t at)
+{
+    look(line, back, GUDRENOSS_NOT_MONOTONE, at);
+}
+
+static void looks_number(int line, gudrenoss_refusal back, uint64_t x)
 {
     before.number_0 = x;
-    look(line, back, GUDRENOSS_OK);
+    look(line, back, GUDRENOSS_OK, 0);
 }
 
-static void looks_two(int line, uint64_t back, uint64_t x, uint64_t y)
+static void looks_two(int line, gudrenoss_refusal back, uint64_t x, uint64_t y)
 {
     before.number_1 = y;
     looks_number(line, back, x);
 }
 
-static void looks_flag(int line, uint64_t back, bool flag)
+static void looks_flag(int line, gudrenoss_refusal back, bool flag)
 {
     before.flag = flag;
-    look(line, back, GUDRENOSS_OK);
+    look(line, back, GUDRENOSS_OK, 0);
 }
 
-static void looks_signed(int line, uint64_t back, bool minus, uint64_t x)
+static void looks_signed(int line, gudrenoss_refusal back, bool minus, uint64_t x)
 {
     before.flag = minus;
     looks_number(line, back, x);
 }
 
-static void looks_signed_two(int line, uint64_t back, bool minus, uint64_t x, uint64_t y)
+static void looks_signed_two(int line, gudrenoss_refusal back, bool minus, uint64_t x, uint64_t y)
 {
     before.flag = minus;
     looks_two(line, back, x, y);
@@ -142,22 +149,23 @@ static void put(const uint64_t *list, size_t len)
         before.out.place[i] = list[i];
 }
 
-static void looks_list(int line, uint64_t back, const uint64_t *list, size_t len)
+static void looks_list(int line, gudrenoss_refusal back, const uint64_t *list, size_t len)
 {
     put(list, len);
     looks_number(line, back, len);
 }
 
 /* The twenty entries of a permutation: those listed, then zeros. */
-static void looks_entries(int line, uint64_t back, const uint64_t *list, size_t len)
+static void looks_entries(int line, gudrenoss_refusal back, const uint64_t *list, size_t len)
 {
     const uint64_t zeros[20] = {0};
     put(zeros, 20);
     put(list, len);
-    look(line, back, GUDRENOSS_OK);
+    look(line, back, GUDRENOSS_OK, 0);
 }
 
 #define refused(back, number) looks_refused(__LINE__, back, GUDRENOSS_##number)
+#define breaks(back, at) looks_broken(__LINE__, back, at)
 #define number(back, x) looks_number(__LINE__, back, x)
 #define two(back, x, y) looks_two(__LINE__, back, x, y)
 #define flag(back, f) looks_flag(__LINE__, back, f)
@@ -204,6 +212,15 @@ static const uint64_t *same(uint64_t s)
     return all;
 }
 
+/* 0, 1, 2, .. with position 63 no higher than the one before it. */
+static const uint64_t *last_falls(void)
+{
+    static uint64_t all[most];
+    for (size_t i = 0; i < most; i++)
+        all[i] = i == 63 ? 0 : i;
+    return all;
+}
+
 static const bool forbidden = false, allowed = true, plus = false, minus = true;
 
 /* ---- Terms ------------------------------------------------------------------------------------------------------------------ */
@@ -239,10 +256,18 @@ static void test_pack(void)
     number(gudrenoss_pack(allowed, same(0), 64, X), top);
     refused(gudrenoss_pack(allowed, same(0), 65, X), TOO_WIDE);
     refused(gudrenoss_pack(forbidden, same(0), 65, X), TOO_WIDE);
-    refused(gudrenoss_pack(forbidden, IN(1, 1), X), NOT_MONOTONE);
-    refused(gudrenoss_pack(allowed, IN(2, 1), X), NOT_MONOTONE);
+    breaks(gudrenoss_pack(forbidden, IN(1, 1), X), 1);
+    breaks(gudrenoss_pack(allowed, IN(2, 1), X), 1);
+    breaks(gudrenoss_pack(allowed, IN(3, 5, 4, 1), X), 2);
+    breaks(gudrenoss_pack(forbidden, IN(0, 2, 2, 1), X), 2);
+    breaks(gudrenoss_pack(allowed, IN(0, 2, 2, 1), X), 3);
+    breaks(gudrenoss_pack(forbidden, same(0), 64, X), 1);
     refused(gudrenoss_pack(forbidden, IN(64), X), TOO_WIDE);
-    refused(gudrenoss_pack(forbidden, IN(64, 0), X), NOT_MONOTONE);
+    breaks(gudrenoss_pack(forbidden, IN(64, 0), X), 1);
+    breaks(gudrenoss_pack(forbidden, IN(70, 69), X), 1);
+    breaks(gudrenoss_pack(forbidden, last_falls(), 64, X), 63);
+    breaks(gudrenoss_pack(allowed, last_falls(), 64, X), 63);
+    refused(gudrenoss_pack(allowed, last_falls(), 65, X), TOO_WIDE);
     refused(gudrenoss_pack(allowed, IN(0, top), X), TOO_WIDE);
     refused(gudrenoss_pack(allowed, IN(0, 63), X), TOO_WIDE);
 }
@@ -293,8 +318,12 @@ static void test_rank(void)
     number(gudrenoss_rank(forbidden, NULL, 0, X), 0);
     number(gudrenoss_rank(forbidden, rising(), 64, X), 0);
     refused(gudrenoss_rank(forbidden, rising(), 65, X), TOO_WIDE);
-    refused(gudrenoss_rank(forbidden, IN(1, 1), X), NOT_MONOTONE);
-    refused(gudrenoss_rank(forbidden, IN(64, 0), X), NOT_MONOTONE);
+    breaks(gudrenoss_rank(forbidden, IN(1, 1), X), 1);
+    breaks(gudrenoss_rank(allowed, IN(3, 5, 4, 1), X), 2);
+    breaks(gudrenoss_rank(forbidden, IN(0, 2, 2, 1), X), 2);
+    breaks(gudrenoss_rank(allowed, IN(0, 2, 2, 1), X), 3);
+    breaks(gudrenoss_rank(allowed, last_falls(), 64, X), 63);
+    breaks(gudrenoss_rank(forbidden, IN(64, 0), X), 1);
     refused(gudrenoss_rank(forbidden, IN(64), X), TOO_WIDE);
     refused(gudrenoss_rank(allowed, IN(0, top), X), TOO_WIDE);
 }
@@ -338,7 +367,7 @@ static void stand(bool standing, uint64_t at, uint64_t remaining)
 static void steps(int line, bool standing, uint64_t at, uint64_t remaining, uint64_t bits, bool then, uint64_t next)
 {
     stand(standing, at, remaining);
-    uint64_t back = gudrenoss_walk_step(remaining % 2, FLAG, X, Y, Z);
+    gudrenoss_refusal back = gudrenoss_walk_step(remaining % 2, FLAG, X, Y, Z);
     before.number_2 = bits;
     looks_signed_two(line, back, then, next, remaining - 1);
 }
@@ -346,7 +375,7 @@ static void steps(int line, bool standing, uint64_t at, uint64_t remaining, uint
 static void stops(int line, bool standing, uint64_t at, uint64_t remaining)
 {
     stand(standing, at, remaining);
-    look(line, gudrenoss_walk_step(remaining % 2, FLAG, X, Y, Z), GUDRENOSS_LAST);
+    look(line, gudrenoss_walk_step(remaining % 2, FLAG, X, Y, Z), GUDRENOSS_LAST, 0);
 }
 
 static void test_walk(void)
@@ -375,12 +404,12 @@ static void test_whole_walk(bool family, uint64_t n, uint64_t k)
 {
     bool standing;
     uint64_t at, remaining, bits, rank = 0, count, degree, other;
-    check(__LINE__, gudrenoss_walk_start(family, n, k, &standing, &at, &remaining) == GUDRENOSS_OK, "a walk starts");
-    check(__LINE__, gudrenoss_count(family, n, k, &count) == GUDRENOSS_OK && count == remaining, "a walk has the count to give");
-    while (gudrenoss_walk_step(family, &standing, &at, &remaining, &bits) == GUDRENOSS_OK) {
-        check(__LINE__, gudrenoss_degree(family, bits, &degree) == GUDRENOSS_OK && degree == k, "the degree on a walk");
-        check(__LINE__, gudrenoss_rank_of(family, bits, &other) == GUDRENOSS_OK && other == rank, "the rank on a walk");
-        check(__LINE__, gudrenoss_unrank_over(family, n, k, rank, &other) == GUDRENOSS_OK && other == bits, "the index of the rank");
+    check(__LINE__, gudrenoss_walk_start(family, n, k, &standing, &at, &remaining).number == GUDRENOSS_OK, "a walk starts");
+    check(__LINE__, gudrenoss_count(family, n, k, &count).number == GUDRENOSS_OK && count == remaining, "a walk has the count to give");
+    while (gudrenoss_walk_step(family, &standing, &at, &remaining, &bits).number == GUDRENOSS_OK) {
+        check(__LINE__, gudrenoss_degree(family, bits, &degree).number == GUDRENOSS_OK && degree == k, "the degree on a walk");
+        check(__LINE__, gudrenoss_rank_of(family, bits, &other).number == GUDRENOSS_OK && other == rank, "the rank on a walk");
+        check(__LINE__, gudrenoss_unrank_over(family, n, k, rank, &other).number == GUDRENOSS_OK && other == bits, "the index of the rank");
         rank++;
     }
     check(__LINE__, rank == count, "a walk gives the count");

@@ -149,9 +149,9 @@ static void ready(void)
 }
 
 /* Whether the call did what the model says, and nothing else. */
-static bool agrees(uint64_t refusal, const struct answer *a)
+static bool agrees(gudrenoss_refusal refusal, const struct answer *a)
 {
-    bool answered = a->refusal == GUDRENOSS_OK, good = refusal == a->refusal;
+    bool answered = a->refusal == GUDRENOSS_OK, good = refusal.number == a->refusal && refusal.at == a->at;
     for (size_t i = 0; i < 3; i++)
         good = good && holds(&value[i], answered && i < a->values ? a->value[i] : value_before[i]);
     good = good && flag_holds(answered && a->has_flag ? a->flag : flag_before);
@@ -262,7 +262,7 @@ static size_t room(void)
 
 /* Each makes its arguments, calls, and hands back what the library gave with what the model says. */
 struct outcome {
-    uint64_t refusal;
+    gudrenoss_refusal refusal;
     struct answer model;
 };
 
@@ -787,10 +787,11 @@ static void run(struct target *t, uint64_t seed)
     state = seed;
     struct outcome o = t->call();
     if (agrees(o.refusal, &o.model)) {
-        t->given[o.refusal]++;
+        t->given[o.refusal.number]++;
     } else if (t->broken++ == 0) {
-        printf("%s: broken at seed %llu: refusal %u, the model's %u\n", t->name, (unsigned long long)seed,
-            (unsigned)o.refusal, (unsigned)o.model.refusal);
+        printf("%s: broken at seed %llu: refusal %llu at %llu, the model's %llu at %llu\n", t->name, (unsigned long long)seed,
+            (unsigned long long)o.refusal.number, (unsigned long long)o.refusal.at, (unsigned long long)o.model.refusal,
+            (unsigned long long)o.model.at);
     }
 }
 

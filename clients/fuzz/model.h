@@ -5,9 +5,9 @@
 
 #include <gudrenoss.h>
 
-/* What a call must come to: the refusal, or what its places then hold, in the order of the parameters. */
+/* What a call must come to: the refusal and the place that it tells, or what its places then hold, in the order of the parameters. */
 struct answer {
-    uint64_t refusal;
+    uint64_t refusal, at;
     bool has_flag, flag;
     size_t values;
     uint64_t value[3];

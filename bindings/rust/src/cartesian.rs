@@ -167,7 +167,7 @@ impl Word {
         Ok((symbol, Word::from_rank(self.radix, self.degree - 1, rest)))
     }
 
-    fn made(radix: u64, call: impl FnOnce(&mut u64, &mut u64) -> u64) -> Result<Self, Refusal> {
+    fn made(radix: u64, call: impl FnOnce(&mut u64, &mut u64) -> sys::Status) -> Result<Self, Refusal> {
         let mut degree = 0;
         let rank = sys::number(|rank| call(&mut degree, rank))?;
         Ok(Word { radix, degree, rank })

@@ -27,7 +27,7 @@ impl Combination {
     /// Whether `index` is a member; from 64 up it is not.
     pub fn contains(self, index: u64) -> bool {
         let mut contains = false;
-        sys::gudrenoss_set_contains(self.0, index, &mut contains);
+        let _ = sys::gudrenoss_set_contains(self.0, index, &mut contains);
         contains
     }
 

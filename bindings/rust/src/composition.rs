@@ -61,7 +61,7 @@ impl Composition {
         sys::number(|rank| sys::gudrenoss_exponents_rank(&self.parts, rank))
     }
 
-    fn filled(call: impl FnOnce(&mut [u64], &mut u64) -> u64) -> Result<Self, Refusal> {
+    fn filled(call: impl FnOnce(&mut [u64], &mut u64) -> sys::Status) -> Result<Self, Refusal> {
         let parts = Symbols::filled(|entries, written| Refusal::judge(call(entries, written)))?;
         Ok(Composition { parts })
     }

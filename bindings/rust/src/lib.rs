@@ -21,7 +21,7 @@
 //! // Over three quantities there are 6 terms of degree 2, and the product of quantity 0 and quantity 2 is number 3.
 //! assert_eq!(Repetition::Allowed.count(3, 2)?, 6);
 //! assert_eq!(Repetition::Allowed.rank(&[0, 2])?, 3);
-//! assert_eq!(Repetition::Forbidden.rank(&[2, 2]), Err(Refusal::NotMonotone));
+//! assert_eq!(Repetition::Forbidden.rank(&[2, 2]), Err(Refusal::NotMonotone { at: 1 }));
 //!
 //! let words: Vec<Vec<u64>> = MonoIndex::all(Repetition::Allowed, 3, 2)?.map(|i| i.word().to_vec()).collect();
 //! assert_eq!(words, [[0, 0], [0, 1], [1, 1], [0, 2], [1, 2], [2, 2]]);

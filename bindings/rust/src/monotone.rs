@@ -112,7 +112,7 @@ impl MonoIndex {
     /// How many symbols its word has.
     pub fn degree(self) -> u64 {
         let mut degree = 0;
-        sys::gudrenoss_degree(self.allowed(), self.shifted, &mut degree);
+        let _ = sys::gudrenoss_degree(self.allowed(), self.shifted, &mut degree);
         degree
     }
 
@@ -130,7 +130,7 @@ impl MonoIndex {
     /// Its rank: how many words of the family and degree are earlier.
     pub fn rank(self) -> u64 {
         let mut rank = 0;
-        sys::gudrenoss_rank_of(self.allowed(), self.shifted, &mut rank);
+        let _ = sys::gudrenoss_rank_of(self.allowed(), self.shifted, &mut rank);
         rank
     }
 
@@ -205,7 +205,7 @@ impl MonoIndex {
         self.repetition.allowed()
     }
 
-    fn signed(repetition: Repetition, call: impl FnOnce(&mut bool, &mut u64) -> u64) -> Result<(Sign, Self), Refusal> {
+    fn signed(repetition: Repetition, call: impl FnOnce(&mut bool, &mut u64) -> sys::Status) -> Result<(Sign, Self), Refusal> {
         let mut minus = false;
         let bits = sys::number(|bits| call(&mut minus, bits))?;
         Ok((Sign::from_minus(minus), MonoIndex::from_bits(repetition, bits)))

@@ -91,7 +91,7 @@ impl Permutation {
         Self::given(self.0.len, |entries| sys::gudrenoss_permutation_successor(self.0, entries))
     }
 
-    fn given(len: u64, call: impl FnOnce(&mut [u64; 20]) -> u64) -> Result<Self, Refusal> {
+    fn given(len: u64, call: impl FnOnce(&mut [u64; 20]) -> sys::Status) -> Result<Self, Refusal> {
         let mut entries = [0; 20];
         Refusal::judge(call(&mut entries))?;
         Ok(Permutation(sys::Record { entries, len }))

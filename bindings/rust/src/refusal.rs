@@ -1,3 +1,4 @@
+use crate::sys::Status;
 use core::fmt;
 
 /// Why a call gives no answer. Nothing else is ever refused.
@@ -5,53 +6,85 @@ use core::fmt;
 pub enum Refusal {
     /// A limit on width is passed: more than 64 symbols, a shifted alphabet above 64, a shifted symbol above 63, a permutation
     /// longer than 20, more than 16 axes, more than 64 digits or exponents.
-    TooWide = 1,
+    TooWide,
     /// A word breaks its family's rule.
-    NotMonotone = 2,
+    NotMonotone {
+        /// The first position whose symbol may not stand after its neighbour. As many symbols as it says keep the rule, and no more.
+        at: u64,
+    },
     /// A rank, or a number to be taken apart into digits, is not below the count.
-    NoSuchRank = 3,
+    NoSuchRank,
     /// There is no next word, or the walk is finished.
-    Last = 4,
+    Last,
     /// A symbol of the family that forbids repetition occurs twice.
-    Repeated = 5,
+    Repeated,
     /// Two families meet, or the complement of a multiset is asked for.
-    Family = 6,
+    Family,
     /// A symbol, digit, axis or position is not below its bound, or the symbol is absent.
-    Outside = 7,
+    Outside,
     /// Lengths or radices differ, or an output is too short.
-    Shape = 8,
+    Shape,
     /// The number that the call is to state is 2^64 or more.
-    TooBig = 9,
+    TooBig,
     /// The entries are no bijection of 0 .. length - 1.
-    NotAPermutation = 10,
+    NotAPermutation,
 }
 
 impl Refusal {
-    /// Every refusal, by number.
-    pub const ALL: [Refusal; 10] = [
-        Refusal::TooWide,
-        Refusal::NotMonotone,
-        Refusal::NoSuchRank,
-        Refusal::Last,
-        Refusal::Repeated,
-        Refusal::Family,
-        Refusal::Outside,
-        Refusal::Shape,
-        Refusal::TooBig,
-        Refusal::NotAPermutation,
-    ];
+    /// The refusal with this number and this place, if there is one: a refusal that tells no place has the place 0.
+    ///
+    /// ```
+    /// use gudrenoss::Refusal;
+    /// assert_eq!(Refusal::from_parts(2, 1), Some(Refusal::NotMonotone { at: 1 }));
+    /// assert_eq!(Refusal::from_parts(4, 0), Some(Refusal::Last));
+    /// assert_eq!(Refusal::from_parts(4, 1), None);
+    /// ```
+    pub fn from_parts(number: u64, at: u64) -> Option<Refusal> {
+        let refusal = match number {
+            1 => Refusal::TooWide,
+            2 => Refusal::NotMonotone { at },
+            3 => Refusal::NoSuchRank,
+            4 => Refusal::Last,
+            5 => Refusal::Repeated,
+            6 => Refusal::Family,
+            7 => Refusal::Outside,
+            8 => Refusal::Shape,
+            9 => Refusal::TooBig,
+            10 => Refusal::NotAPermutation,
+            _ => return None,
+        };
+        (refusal.at() == at).then_some(refusal)
+    }
 
     /// Its number in `docs/RULES.md` and `include/gudrenoss.h`, from 1 to 10.
     pub fn number(self) -> u64 {
-        self as u64
+        match self {
+            Refusal::TooWide => 1,
+            Refusal::NotMonotone { .. } => 2,
+            Refusal::NoSuchRank => 3,
+            Refusal::Last => 4,
+            Refusal::Repeated => 5,
+            Refusal::Family => 6,
+            Refusal::Outside => 7,
+            Refusal::Shape => 8,
+            Refusal::TooBig => 9,
+            Refusal::NotAPermutation => 10,
+        }
     }
 
-    /// What the library gave back: 0 is an answer.
-    pub(crate) fn judge(number: u64) -> Result<(), Refusal> {
-        match number {
-            0 => Ok(()),
-            1..=10 => Err(Self::ALL[number as usize - 1]),
-            _ => unreachable!("the library gives no other number"),
+    /// The place that it tells, as `include/gudrenoss.h` gives it: 0 if it tells none.
+    pub fn at(self) -> u64 {
+        match self {
+            Refusal::NotMonotone { at } => at,
+            _ => 0,
+        }
+    }
+
+    /// What the library gave back: number 0 is an answer.
+    pub(crate) fn judge(back: Status) -> Result<(), Refusal> {
+        match back {
+            Status { number: 0, at: 0 } => Ok(()),
+            Status { number, at } => Err(Self::from_parts(number, at).expect("the library gives no other number and place")),
         }
     }
 }
@@ -60,7 +93,9 @@ impl fmt::Display for Refusal {
     fn fmt(&self, f: &mut fmt::Formatter<'_>) -> fmt::Result {
         let reason = match self {
             Refusal::TooWide => "a limit on width is passed",
-            Refusal::NotMonotone => "the word breaks its family's rule",
+            Refusal::NotMonotone { at } => {
+                return write!(f, "refused {} at {at}: the word breaks its family's rule", self.number());
+            }
             Refusal::NoSuchRank => "the rank is not below the count",
             Refusal::Last => "there is no next word",
             Refusal::Repeated => "a symbol occurs twice",
@@ -79,16 +114,26 @@ impl core::error::Error for Refusal {}
 #[cfg(test)]
 mod tests {
     extern crate std;
-    use super::Refusal;
+    use super::{Refusal, Status};
+    use std::format;
     use std::string::ToString;
 
     #[test]
-    fn numbers_lead_back() {
-        for (i, refusal) in Refusal::ALL.into_iter().enumerate() {
-            assert_eq!(refusal.number(), i as u64 + 1);
-            assert_eq!(Refusal::judge(refusal.number()), Err(refusal));
-            assert!(refusal.to_string().starts_with(&std::format!("refused {}: ", i + 1)));
+    fn parts_lead_back() {
+        for number in 1..=10 {
+            for at in [0, 1, 63, u64::MAX] {
+                let Some(refusal) = Refusal::from_parts(number, at) else {
+                    assert!(number != 2 && at != 0);
+                    continue;
+                };
+                assert!(number == 2 || at == 0);
+                assert_eq!((refusal.number(), refusal.at()), (number, at));
+                assert_eq!(Refusal::judge(Status { number, at }), Err(refusal));
+                let place = if number == 2 { format!(" at {at}") } else { "".to_string() };
+                assert!(refusal.to_string().starts_with(&format!("refused {number}{place}: ")));
+            }
         }
-        assert_eq!(Refusal::judge(0), Ok(()));
+        assert_eq!((Refusal::from_parts(0, 0), Refusal::from_parts(11, 0)), (None, None));
+        assert_eq!(Refusal::judge(Status { number: 0, at: 0 }), Ok(()));
     }
 }

@@ -7,6 +7,15 @@
 
 use crate::Refusal;
 
+/// What every function gives back, as C has it: the number of a refusal, 0 for an answer, and the place that it tells.
+#[repr(C)]
+#[derive(Clone, Copy)]
+#[must_use]
+pub struct Status {
+    pub number: u64,
+    pub at: u64,
+}
+
 /// The record of a permutation, as C has it.
 #[repr(C)]
 #[derive(Clone, Copy)]
@@ -16,13 +25,13 @@ pub struct Record {
 }
 
 unsafe extern "C" {
-    pub safe fn gudrenoss_count(allowed: bool, n: u64, k: u64, count: &mut u64) -> u64;
-    pub safe fn gudrenoss_degree(allowed: bool, bits: u64, degree: &mut u64) -> u64;
-    pub safe fn gudrenoss_symbol(allowed: bool, bits: u64, p: u64, symbol: &mut u64) -> u64;
-    pub safe fn gudrenoss_rank_of(allowed: bool, bits: u64, rank: &mut u64) -> u64;
-    pub safe fn gudrenoss_unrank_over(allowed: bool, n: u64, k: u64, r: u64, bits: &mut u64) -> u64;
-    pub safe fn gudrenoss_unrank_any(allowed: bool, k: u64, r: u64, bits: &mut u64) -> u64;
-    pub safe fn gudrenoss_successor(allowed: bool, bits: u64, next: &mut u64) -> u64;
+    pub safe fn gudrenoss_count(allowed: bool, n: u64, k: u64, count: &mut u64) -> Status;
+    pub safe fn gudrenoss_degree(allowed: bool, bits: u64, degree: &mut u64) -> Status;
+    pub safe fn gudrenoss_symbol(allowed: bool, bits: u64, p: u64, symbol: &mut u64) -> Status;
+    pub safe fn gudrenoss_rank_of(allowed: bool, bits: u64, rank: &mut u64) -> Status;
+    pub safe fn gudrenoss_unrank_over(allowed: bool, n: u64, k: u64, r: u64, bits: &mut u64) -> Status;
+    pub safe fn gudrenoss_unrank_any(allowed: bool, k: u64, r: u64, bits: &mut u64) -> Status;
+    pub safe fn gudrenoss_successor(allowed: bool, bits: u64, next: &mut u64) -> Status;
     pub safe fn gudrenoss_walk_start(
         allowed: bool,
         n: u64,
@@ -30,9 +39,14 @@ unsafe extern "C" {
         standing: &mut bool,
         at: &mut u64,
         remaining: &mut u64,
-    ) -> u64;
-    pub safe fn gudrenoss_walk_step(allowed: bool, standing: &mut bool, at: &mut u64, remaining: &mut u64, bits: &mut u64)
-        -> u64;
+    ) -> Status;
+    pub safe fn gudrenoss_walk_step(
+        allowed: bool,
+        standing: &mut bool,
+        at: &mut u64,
+        remaining: &mut u64,
+        bits: &mut u64,
+    ) -> Status;
 
     pub safe fn gudrenoss_merge(
         left_allowed: bool,
@@ -41,28 +55,28 @@ unsafe extern "C" {
         right_bits: u64,
         minus: &mut bool,
         bits: &mut u64,
-    ) -> u64;
-    pub safe fn gudrenoss_delete(allowed: bool, bits: u64, p: u64, minus: &mut bool, symbol: &mut u64, rest: &mut u64) -> u64;
-    pub safe fn gudrenoss_complement(allowed: bool, bits: u64, n: u64, minus: &mut bool, rest: &mut u64) -> u64;
-    pub safe fn gudrenoss_stabilizer(allowed: bool, bits: u64, stabilizer: &mut u64) -> u64;
+    ) -> Status;
+    pub safe fn gudrenoss_delete(allowed: bool, bits: u64, p: u64, minus: &mut bool, symbol: &mut u64, rest: &mut u64) -> Status;
+    pub safe fn gudrenoss_complement(allowed: bool, bits: u64, n: u64, minus: &mut bool, rest: &mut u64) -> Status;
+    pub safe fn gudrenoss_stabilizer(allowed: bool, bits: u64, stabilizer: &mut u64) -> Status;
 
-    pub safe fn gudrenoss_set_insert(set: u64, s: u64, with: &mut u64) -> u64;
-    pub safe fn gudrenoss_set_contains(set: u64, s: u64, contains: &mut bool) -> u64;
-    pub safe fn gudrenoss_set_position(set: u64, s: u64, position: &mut u64) -> u64;
-    pub safe fn gudrenoss_set_select(set: u64, positions: u64, selected: &mut u64) -> u64;
+    pub safe fn gudrenoss_set_insert(set: u64, s: u64, with: &mut u64) -> Status;
+    pub safe fn gudrenoss_set_contains(set: u64, s: u64, contains: &mut bool) -> Status;
+    pub safe fn gudrenoss_set_position(set: u64, s: u64, position: &mut u64) -> Status;
+    pub safe fn gudrenoss_set_select(set: u64, positions: u64, selected: &mut u64) -> Status;
 
-    pub safe fn gudrenoss_permutation_image(p: Record, i: u64, entry: &mut u64) -> u64;
-    pub safe fn gudrenoss_permutation_inverse(p: Record, entries: &mut [u64; 20]) -> u64;
-    pub safe fn gudrenoss_permutation_compose(p: Record, q: Record, entries: &mut [u64; 20]) -> u64;
-    pub safe fn gudrenoss_permutation_sign(p: Record, minus: &mut bool) -> u64;
-    pub safe fn gudrenoss_permutation_rank(p: Record, rank: &mut u64) -> u64;
-    pub safe fn gudrenoss_permutation_unrank(n: u64, r: u64, entries: &mut [u64; 20]) -> u64;
-    pub safe fn gudrenoss_permutation_successor(p: Record, entries: &mut [u64; 20]) -> u64;
+    pub safe fn gudrenoss_permutation_image(p: Record, i: u64, entry: &mut u64) -> Status;
+    pub safe fn gudrenoss_permutation_inverse(p: Record, entries: &mut [u64; 20]) -> Status;
+    pub safe fn gudrenoss_permutation_compose(p: Record, q: Record, entries: &mut [u64; 20]) -> Status;
+    pub safe fn gudrenoss_permutation_sign(p: Record, minus: &mut bool) -> Status;
+    pub safe fn gudrenoss_permutation_rank(p: Record, rank: &mut u64) -> Status;
+    pub safe fn gudrenoss_permutation_unrank(n: u64, r: u64, entries: &mut [u64; 20]) -> Status;
+    pub safe fn gudrenoss_permutation_successor(p: Record, entries: &mut [u64; 20]) -> Status;
 
-    pub safe fn gudrenoss_digits_count(radix: u64, degree: u64, count: &mut u64) -> u64;
-    pub safe fn gudrenoss_digits_symbol(radix: u64, degree: u64, rank: u64, p: u64, symbol: &mut u64) -> u64;
-    pub safe fn gudrenoss_digits_multiplicity(radix: u64, degree: u64, rank: u64, s: u64, multiplicity: &mut u64) -> u64;
-    pub safe fn gudrenoss_digits_stabilizer(radix: u64, degree: u64, rank: u64, stabilizer: &mut u64) -> u64;
+    pub safe fn gudrenoss_digits_count(radix: u64, degree: u64, count: &mut u64) -> Status;
+    pub safe fn gudrenoss_digits_symbol(radix: u64, degree: u64, rank: u64, p: u64, symbol: &mut u64) -> Status;
+    pub safe fn gudrenoss_digits_multiplicity(radix: u64, degree: u64, rank: u64, s: u64, multiplicity: &mut u64) -> Status;
+    pub safe fn gudrenoss_digits_stabilizer(radix: u64, degree: u64, rank: u64, stabilizer: &mut u64) -> Status;
     pub safe fn gudrenoss_digits_concat(
         left_radix: u64,
         left_degree: u64,
@@ -72,8 +86,8 @@ unsafe extern "C" {
         right_rank: u64,
         degree: &mut u64,
         rank: &mut u64,
-    ) -> u64;
-    pub safe fn gudrenoss_digits_delete(radix: u64, degree: u64, rank: u64, p: u64, symbol: &mut u64, rest: &mut u64) -> u64;
+    ) -> Status;
+    pub safe fn gudrenoss_digits_delete(radix: u64, degree: u64, rank: u64, p: u64, symbol: &mut u64, rest: &mut u64) -> Status;
 }
 
 /// A function with slices: its declaration with the slices taken apart, and a safe function that does so. `[xs]` is a slice that is
@@ -94,9 +108,9 @@ macro_rules! with_slices {
         with_slices!(@munch $name ($($c)* $x: $kind,) ($($safe)* $x: $kind,) ($($passed)* $x,) $($rest)*);
     };
     (@munch $name:ident ($($c:tt)*) ($($safe:tt)*) ($($passed:tt)*)) => {
-        pub fn $name($($safe)*) -> u64 {
+        pub fn $name($($safe)*) -> Status {
             unsafe extern "C" {
-                fn $name($($c)*) -> u64;
+                fn $name($($c)*) -> Status;
             }
             // SAFETY: each pointer comes from a slice of the length that is passed with it.
             unsafe { $name($($passed)*) }
@@ -125,7 +139,7 @@ with_slices! {
 }
 
 /// The number that a call writes.
-pub fn number(call: impl FnOnce(&mut u64) -> u64) -> Result<u64, Refusal> {
+pub fn number(call: impl FnOnce(&mut u64) -> Status) -> Result<u64, Refusal> {
     let mut value = 0;
     Refusal::judge(call(&mut value))?;
     Ok(value)

@@ -31,7 +31,9 @@ fn words_and_ranks() {
     assert_eq!(Forbidden.rank(&[1, 3]), Ok(4));
     assert_eq!(Allowed.rank(&[1, 1]), Ok(2));
     assert_eq!(Allowed.rank(&[]), Ok(0));
-    assert_eq!(Forbidden.rank(&[1, 1]), Err(Refusal::NotMonotone));
+    assert_eq!(Forbidden.rank(&[1, 1]), Err(Refusal::NotMonotone { at: 1 }));
+    assert_eq!(Allowed.rank(&[3, 5, 4, 1]), Err(Refusal::NotMonotone { at: 2 }));
+    assert_eq!(Forbidden.rank(&[70, 69]), Err(Refusal::NotMonotone { at: 1 }));
     assert_eq!(Forbidden.rank(&[64]), Err(Refusal::TooWide));
     assert_eq!(Allowed.rank(&[0; 65]), Err(Refusal::TooWide));
     assert_eq!(Allowed.word_from_rank(3, 2, 3).unwrap(), [0, 2]);
@@ -44,7 +46,9 @@ fn words_and_ranks() {
 fn indices() {
     assert_eq!(MonoIndex::new(Allowed, &[1, 1, 2]), Ok(multiset(22)));
     assert_eq!(MonoIndex::new(Forbidden, &[0, 2]), Ok(set(5)));
-    assert_eq!(MonoIndex::new(Allowed, &[2, 1]), Err(Refusal::NotMonotone));
+    assert_eq!(MonoIndex::new(Allowed, &[2, 1]), Err(Refusal::NotMonotone { at: 1 }));
+    assert_eq!(MonoIndex::new(Allowed, &[0, 2, 2, 1]), Err(Refusal::NotMonotone { at: 3 }));
+    assert_eq!(MonoIndex::new(Forbidden, &[0, 2, 2, 1]), Err(Refusal::NotMonotone { at: 2 }));
     assert_eq!(MonoIndex::new(Allowed, &[0, 63]), Err(Refusal::TooWide));
     assert_eq!(multiset(25).word(), [0, 2, 2]);
     assert_eq!(set(25).word(), [0, 3, 4]);

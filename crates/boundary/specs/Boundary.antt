@@ -1,6 +1,8 @@
--- How an answer crosses to a program in C: the refusal number comes back, and each result goes to a place of the caller's. Assumes nothing.
+-- How an answer crosses to a program in C: the refusal comes back, and each result goes to a place of the caller's. Assumes nothing.
 --   familyOf allowed    the family as a truth value
---   status s    what comes back: 01's number of a refusal, or 0 for an answer
+--   answered    what comes back of an answer: the number 0, and the place 0
+--   refusedWith e c    what comes back of a refusal: its number e in 01's table, and the place among what it carries, 0 if it carries none
+--   status s    what comes back: the one or the other
 --   stored f s old    what a place holds that held old: the part f of the value, and after a refusal what it held
 --   itself n    a number that is the whole value
 --   minus s    a sign as a truth value
@@ -11,26 +13,34 @@
 --   standingOf w, atOf w, remainingOf w    these parts of a walk; the bits are 0 where it stands nowhere
 --   bitsGiven m, standingAfter m, atAfter m, remainingAfter m    what a step gives, and the parts of the walk after it
 use mathlib.Core.Bool.{Bool, true, false}
+use mathlib.Core.List.{List}
 use Prim.Native.Nat.{ℕ}
 use Rattle.words.specs.declared.Family.{Family}
 use Rattle.words.specs.declared.Family.the-variants.{Forbidden, Allowed}
 use Rattle.answers.specs.declared.Sign.{Sign}
 use Rattle.answers.specs.declared.Sign.the-variants.{Plus, Minus}
 use Rattle.answers.specs.declared.Index.{Index}
-use Rattle.answers.specs.Says.{Says, refusesWith, gives, Term}
+use Rattle.answers.specs.Says.{Says, refusesWith, gives, Term, placeOf}
 use Rattle.monotone.specs.declared.Current.{Current}
 use Rattle.monotone.specs.declared.Current.the-variants.{At, Nothing}
 use Rattle.monotone.specs.declared.Walk.{Walk}
 use Rattle.monotone.specs.Walks.{Moved}
 use Rattle.deletion.specs.Rules.{Removed}
+use Rattle.boundary.specs.declared.Status.{Status}
 
 abbrev pub familyOf : Bool → Family
 familyOf true = Allowed
 familyOf false = Forbidden
 
-abbrev pub status : {A : Type 0} → Says A → ℕ
-status (refusesWith e c) = e
-status (gives a) = 0
+abbrev pub answered : Status
+answered = record { number = 0; at = 0 }
+
+abbrev pub refusedWith : ℕ → List ℕ → Status
+refusedWith e c = record { number = e; at = placeOf c }
+
+abbrev pub status : {A : Type 0} → Says A → Status
+status (refusesWith e c) = refusedWith e c
+status (gives a) = answered
 
 abbrev pub stored : {A B : Type 0} → (A → B) → Says A → B → B
 stored f (refusesWith e c) old = old

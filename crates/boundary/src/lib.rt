@@ -1,15 +1,16 @@
-// How answers cross to a program in C (docs/RULES.md, "The C boundary"): the refusal number comes back, 0 for an answer, and each result goes to a place of the
+// How answers cross to a program in C (docs/RULES.md, "The C boundary"): the refusal comes back, its number 0 for an answer, and each result goes to a place of the
 // caller's, which is written only on an answer.
 ghost use mathlib.Core.Path.{_≡_};
-ghost use Rattle.answers.specs.Says.{answerSays, indexedSays, signedSays};
+ghost use Rattle.answers.specs.Says.{numberOf, carriedBy, answerSays, indexedSays, signedSays};
 ghost use Rattle.monotone.specs.Walks.{startedSays, steppedSays};
 ghost use Rattle.deletion.specs.Rules.{deletedSays};
-ghost use Rattle.boundary.specs.Boundary.{familyOf, status, stored, itself, indexAt, minus, bitsOfIndex, minusOfTerm, bitsOfTerm};
+ghost use Rattle.boundary.specs.Boundary.{familyOf, answered, refusedWith, status, stored, itself, indexAt, minus, bitsOfIndex, minusOfTerm, bitsOfTerm};
 ghost use Rattle.boundary.specs.Boundary.{minusOfRemoved, symbolOfRemoved, bitsOfRemoved};
 ghost use Rattle.boundary.specs.Boundary.{walkAt, stands, bitsThere, standingOf, atOf, remainingOf, bitsGiven, standingAfter, atAfter, remainingAfter};
 use answers::Answer;
 use answers::Index;
 use answers::Indexed;
+use answers::Refusal;
 use answers::Sign;
 use answers::Signed;
 use deletion::Deleted;
@@ -18,6 +19,29 @@ use monotone::Started;
 use monotone::Stepped;
 use monotone::Walk;
 use words::Family;
+
+// What comes back from every call: the number of a refusal, 0 for an answer, and the place that the refusal carries, 0 if it carries none.
+#[repr(C)]
+pub struct Status {
+    pub number: u64,
+    pub at: u64,
+}
+
+// What comes back of an answer.
+pub fn answer() -> Status
+    ensures { λ r. ⌜ r ≡ answered ⌝ }
+{
+    Status { number: 0, at: 0 }
+}
+
+// What comes back of a refusal.
+pub fn refused(e: Refusal) -> Status
+    ensures { λ r. ⌜ r ≡ refusedWith (numberOf e) (carriedBy e) ⌝ }
+{
+    let number = answers::number(e);
+    let at = answers::place(e);
+    Status { number, at }
+}
 
 // The family that a truth value stands for.
 pub fn family(allowed: bool) -> Family
@@ -48,35 +72,35 @@ pub fn is_minus(s: Sign) -> bool
 }
 
 // A number.
-pub fn number(a: Answer, out: &mut u64) -> u64
+pub fn number(a: Answer, out: &mut u64) -> Status
     ensures back { λ r. ⌜ r ≡ status (answerSays a) ⌝ }
     ensures holds { λ r. ⌜ now (out .exit) ≡ stored itself (answerSays a) (now (out .entry)) ⌝ }
 {
     match a {
         Answer::Is(n) => {
             *out = n;
-            0
+            answer()
         }
-        Answer::Refused(e) => answers::number(e),
+        Answer::Refused(e) => refused(e),
     }
 }
 
 // The bits of an index.
-pub fn bits(a: Indexed, out: &mut u64) -> u64
+pub fn bits(a: Indexed, out: &mut u64) -> Status
     ensures back { λ r. ⌜ r ≡ status (indexedSays a) ⌝ }
     ensures holds { λ r. ⌜ now (out .exit) ≡ stored bitsOfIndex (indexedSays a) (now (out .entry)) ⌝ }
 {
     match a {
         Indexed::At(x) => {
             *out = x.bits;
-            0
+            answer()
         }
-        Indexed::Refused(e) => answers::number(e),
+        Indexed::Refused(e) => refused(e),
     }
 }
 
 // A sign, as whether it is minus, and the bits of an index.
-pub fn signed(a: Signed, sign: &mut bool, out: &mut u64) -> u64
+pub fn signed(a: Signed, sign: &mut bool, out: &mut u64) -> Status
     ensures back { λ r. ⌜ r ≡ status (signedSays a) ⌝ }
     ensures sign { λ r. ⌜ now (sign .exit) ≡ stored minusOfTerm (signedSays a) (now (sign .entry)) ⌝ }
     ensures bits { λ r. ⌜ now (out .exit) ≡ stored bitsOfTerm (signedSays a) (now (out .entry)) ⌝ }
@@ -85,14 +109,14 @@ pub fn signed(a: Signed, sign: &mut bool, out: &mut u64) -> u64
         Signed::At(s, x) => {
             *sign = is_minus(s);
             *out = x.bits;
-            0
+            answer()
         }
-        Signed::Refused(e) => answers::number(e),
+        Signed::Refused(e) => refused(e),
     }
 }
 
 // A sign, as whether it is minus, the symbol that was deleted, and the bits of what is left.
-pub fn deleted(a: Deleted, sign: &mut bool, symbol: &mut u64, out: &mut u64) -> u64
+pub fn deleted(a: Deleted, sign: &mut bool, symbol: &mut u64, out: &mut u64) -> Status
     ensures back { λ r. ⌜ r ≡ status (deletedSays a) ⌝ }
     ensures sign { λ r. ⌜ now (sign .exit) ≡ stored minusOfRemoved (deletedSays a) (now (sign .entry)) ⌝ }
     ensures symbol { λ r. ⌜ now (symbol .exit) ≡ stored symbolOfRemoved (deletedSays a) (now (symbol .entry)) ⌝ }
@@ -103,9 +127,9 @@ pub fn deleted(a: Deleted, sign: &mut bool, symbol: &mut u64, out: &mut u64) -> 
             *sign = is_minus(s);
             *symbol = gone;
             *out = x.bits;
-            0
+            answer()
         }
-        Deleted::Refused(e) => answers::number(e),
+        Deleted::Refused(e) => refused(e),
     }
 }
 
@@ -142,7 +166,7 @@ fn bits_there(current: Current) -> u64
 }
 
 // The three parts of a walk.
-pub fn started(a: Started, standing: &mut bool, at: &mut u64, remaining: &mut u64) -> u64
+pub fn started(a: Started, standing: &mut bool, at: &mut u64, remaining: &mut u64) -> Status
     ensures back { λ r. ⌜ r ≡ status (startedSays a) ⌝ }
     ensures standing { λ r. ⌜ now (standing .exit) ≡ stored standingOf (startedSays a) (now (standing .entry)) ⌝ }
     ensures at { λ r. ⌜ now (at .exit) ≡ stored atOf (startedSays a) (now (at .entry)) ⌝ }
@@ -154,9 +178,9 @@ pub fn started(a: Started, standing: &mut bool, at: &mut u64, remaining: &mut u6
             *standing = is_standing(current);
             *at = bits_there(current);
             *remaining = w.remaining;
-            0
+            answer()
         }
-        Started::Refused(e) => answers::number(e),
+        Started::Refused(e) => refused(e),
     }
 }
 
@@ -167,7 +191,7 @@ pub fn stepped(
     at: &mut u64,
     remaining: &mut u64,
     out: &mut u64,
-) -> u64
+) -> Status
     ensures back { λ r. ⌜ r ≡ status (steppedSays a) ⌝ }
     ensures standing { λ r. ⌜ now (standing .exit) ≡ stored standingAfter (steppedSays a) (now (standing .entry)) ⌝ }
     ensures at { λ r. ⌜ now (at .exit) ≡ stored atAfter (steppedSays a) (now (at .entry)) ⌝ }
@@ -181,8 +205,8 @@ pub fn stepped(
             *at = bits_there(current);
             *remaining = w.remaining;
             *out = x.bits;
-            0
+            answer()
         }
-        Stepped::Refused(e) => answers::number(e),
+        Stepped::Refused(e) => refused(e),
     }
 }

@@ -6,12 +6,13 @@ ghost use Rattle.answers.specs.Says.{after, placesOf};
 ghost use Rattle.digits.specs.Rules.{countSays, symbolsSays, symbolSays, multiplicitySays, stabilizerSays, fromSymbolsSays, concatSays, deleteSays, wordedSays, deletedSays};
 ghost use Rattle.boundary.specs.Boundary.{status, stored, itself};
 ghost use Rattle.capi.specs.DigitWords.{wordAt, degreeOfWord, rankOfWord, symbolOfTaken, rankOfTaken};
+use boundary::Status;
 use digits::Deleted;
 use digits::DigitWord;
 use digits::Worded;
 
 // A digit word that is an answer, as its degree and its rank.
-fn worded(a: Worded, degree: &mut u64, rank: &mut u64) -> u64
+fn worded(a: Worded, degree: &mut u64, rank: &mut u64) -> Status
     ensures back { λ r. ⌜ r ≡ status (wordedSays a) ⌝ }
     ensures degree { λ r. ⌜ now (degree .exit) ≡ stored degreeOfWord (wordedSays a) (now (degree .entry)) ⌝ }
     ensures rank { λ r. ⌜ now (rank .exit) ≡ stored rankOfWord (wordedSays a) (now (rank .entry)) ⌝ }
@@ -20,14 +21,14 @@ fn worded(a: Worded, degree: &mut u64, rank: &mut u64) -> u64
         Worded::Is(x) => {
             *degree = x.degree;
             *rank = x.rank;
-            0
+            boundary::answer()
         }
-        Worded::Refused(e) => answers::number(e),
+        Worded::Refused(e) => boundary::refused(e),
     }
 }
 
 // A symbol and a digit word that are an answer, as the symbol and the word's rank.
-fn deleted(a: Deleted, symbol: &mut u64, rest: &mut u64) -> u64
+fn deleted(a: Deleted, symbol: &mut u64, rest: &mut u64) -> Status
     ensures back { λ r. ⌜ r ≡ status (deletedSays a) ⌝ }
     ensures symbol { λ r. ⌜ now (symbol .exit) ≡ stored symbolOfTaken (deletedSays a) (now (symbol .entry)) ⌝ }
     ensures rest { λ r. ⌜ now (rest .exit) ≡ stored rankOfTaken (deletedSays a) (now (rest .entry)) ⌝ }
@@ -36,15 +37,15 @@ fn deleted(a: Deleted, symbol: &mut u64, rest: &mut u64) -> u64
         Deleted::At(s, x) => {
             *symbol = s;
             *rest = x.rank;
-            0
+            boundary::answer()
         }
-        Deleted::Refused(e) => answers::number(e),
+        Deleted::Refused(e) => boundary::refused(e),
     }
 }
 
 // How many digit words of a degree there are over a radix: 1 if the degree is above 64; 9 if radix^degree is 2^64 or more.
 #[no_mangle]
-pub extern "C" fn gudrenoss_digits_count(radix: u64, degree: u64, count: &mut u64) -> u64
+pub extern "C" fn gudrenoss_digits_count(radix: u64, degree: u64, count: &mut u64) -> Status
     ensures back { λ r. ⌜ r ≡ status (countSays radix degree) ⌝ }
     ensures holds { λ r. ⌜ now (count .exit) ≡ stored itself (countSays radix degree) (now (count .entry)) ⌝ }
 {
@@ -59,7 +60,7 @@ pub extern "C" fn gudrenoss_digits_from_symbols(
     symbols: &[u64],
     degree: &mut u64,
     rank: &mut u64,
-) -> u64
+) -> Status
     ensures back { λ r. ⌜ r ≡ status (fromSymbolsSays radix (now (symbols .entry))) ⌝ }
     ensures degree { λ r. ⌜ now (degree .exit) ≡ stored degreeOfWord (fromSymbolsSays radix (now (symbols .entry))) (now (degree .entry)) ⌝ }
     ensures rank { λ r. ⌜ now (rank .exit) ≡ stored rankOfWord (fromSymbolsSays radix (now (symbols .entry))) (now (rank .entry)) ⌝ }
@@ -75,7 +76,7 @@ pub extern "C" fn gudrenoss_digits_symbols(
     rank: u64,
     symbols: &mut [u64],
     written: &mut u64,
-) -> u64
+) -> Status
     ensures back { λ r. ⌜ r ≡ status (placesOf (symbolsSays (wordAt radix degree rank) (length (now (symbols .entry))))) ⌝ }
     ensures written { λ r. ⌜ now (written .exit) ≡ stored itself (placesOf (symbolsSays (wordAt radix degree rank) (length (now (symbols .entry))))) (now (written .entry)) ⌝ }
     ensures holds { λ r. ⌜ now (symbols .exit) ≡ after (symbolsSays (wordAt radix degree rank) (length (now (symbols .entry)))) (now (symbols .entry)) ⌝ }
@@ -96,7 +97,7 @@ pub extern "C" fn gudrenoss_digits_symbol(
     rank: u64,
     p: u64,
     symbol: &mut u64,
-) -> u64
+) -> Status
     ensures back { λ r. ⌜ r ≡ status (symbolSays (wordAt radix degree rank) p) ⌝ }
     ensures holds { λ r. ⌜ now (symbol .exit) ≡ stored itself (symbolSays (wordAt radix degree rank) p) (now (symbol .entry)) ⌝ }
 {
@@ -116,7 +117,7 @@ pub extern "C" fn gudrenoss_digits_multiplicity(
     rank: u64,
     s: u64,
     multiplicity: &mut u64,
-) -> u64
+) -> Status
     ensures back { λ r. ⌜ r ≡ status (multiplicitySays (wordAt radix degree rank) s) ⌝ }
     ensures holds { λ r. ⌜ now (multiplicity .exit) ≡ stored itself (multiplicitySays (wordAt radix degree rank) s) (now (multiplicity .entry)) ⌝ }
 {
@@ -135,7 +136,7 @@ pub extern "C" fn gudrenoss_digits_stabilizer(
     degree: u64,
     rank: u64,
     stabilizer: &mut u64,
-) -> u64
+) -> Status
     ensures back { λ r. ⌜ r ≡ status (stabilizerSays (wordAt radix degree rank)) ⌝ }
     ensures holds { λ r. ⌜ now (stabilizer .exit) ≡ stored itself (stabilizerSays (wordAt radix degree rank)) (now (stabilizer .entry)) ⌝ }
 {
@@ -159,7 +160,7 @@ pub extern "C" fn gudrenoss_digits_concat(
     right_rank: u64,
     degree: &mut u64,
     rank: &mut u64,
-) -> u64
+) -> Status
     ensures back { λ r. ⌜ r ≡ status (concatSays (wordAt «left_radix» «left_degree» «left_rank») (wordAt «right_radix» «right_degree» «right_rank»)) ⌝ }
     ensures degree { λ r. ⌜ now (degree .exit) ≡ stored degreeOfWord (concatSays (wordAt «left_radix» «left_degree» «left_rank») (wordAt «right_radix» «right_degree» «right_rank»)) (now (degree .entry)) ⌝ }
     ensures rank { λ r. ⌜ now (rank .exit) ≡ stored rankOfWord (concatSays (wordAt «left_radix» «left_degree» «left_rank») (wordAt «right_radix» «right_degree» «right_rank»)) (now (rank .entry)) ⌝ }
@@ -186,7 +187,7 @@ pub extern "C" fn gudrenoss_digits_delete(
     p: u64,
     symbol: &mut u64,
     rest: &mut u64,
-) -> u64
+) -> Status
     ensures back { λ r. ⌜ r ≡ status (deleteSays (wordAt radix degree rank) p) ⌝ }
     ensures symbol { λ r. ⌜ now (symbol .exit) ≡ stored symbolOfTaken (deleteSays (wordAt radix degree rank) p) (now (symbol .entry)) ⌝ }
     ensures rest { λ r. ⌜ now (rest .exit) ≡ stored rankOfTaken (deleteSays (wordAt radix degree rank) p) (now (rest .entry)) ⌝ }

@@ -5,6 +5,7 @@ ghost use lib.ListN.{length};
 ghost use Rattle.answers.specs.Says.{after, placesOf};
 ghost use Rattle.composition.specs.Rules.{wordSays, fromWordSays, rankSays, fromRankSays, addSays};
 ghost use Rattle.boundary.specs.Boundary.{status, stored, itself};
+use boundary::Status;
 
 // The word of a list of exponents: 1 if it is too wide; 8 if the output has fewer than k places.
 #[no_mangle]
@@ -12,7 +13,7 @@ pub extern "C" fn gudrenoss_exponents_word(
     entries: &[u64],
     word: &mut [u64],
     written: &mut u64,
-) -> u64
+) -> Status
     ensures back { λ r. ⌜ r ≡ status (placesOf (wordSays (now (entries .entry)) (length (now (word .entry))))) ⌝ }
     ensures written { λ r. ⌜ now (written .exit) ≡ stored itself (placesOf (wordSays (now (entries .entry)) (length (now (word .entry))))) (now (written .entry)) ⌝ }
     ensures holds { λ r. ⌜ now (word .exit) ≡ after (wordSays (now (entries .entry)) (length (now (word .entry)))) (now (word .entry)) ⌝ }
@@ -28,7 +29,7 @@ pub extern "C" fn gudrenoss_exponents_from_word(
     word: &[u64],
     entries: &mut [u64],
     written: &mut u64,
-) -> u64
+) -> Status
     ensures back { λ r. ⌜ r ≡ status (placesOf (fromWordSays n (now (word .entry)) (length (now (entries .entry))))) ⌝ }
     ensures written { λ r. ⌜ now (written .exit) ≡ stored itself (placesOf (fromWordSays n (now (word .entry)) (length (now (entries .entry))))) (now (written .entry)) ⌝ }
     ensures holds { λ r. ⌜ now (entries .exit) ≡ after (fromWordSays n (now (word .entry)) (length (now (entries .entry)))) (now (entries .entry)) ⌝ }
@@ -38,7 +39,7 @@ pub extern "C" fn gudrenoss_exponents_from_word(
 
 // The rank of the word of a list of exponents: 1 if it is too wide.
 #[no_mangle]
-pub extern "C" fn gudrenoss_exponents_rank(entries: &[u64], rank: &mut u64) -> u64
+pub extern "C" fn gudrenoss_exponents_rank(entries: &[u64], rank: &mut u64) -> Status
     ensures back { λ r. ⌜ r ≡ status (rankSays (now (entries .entry))) ⌝ }
     ensures holds { λ r. ⌜ now (rank .exit) ≡ stored itself (rankSays (now (entries .entry))) (now (rank .entry)) ⌝ }
 {
@@ -53,7 +54,7 @@ pub extern "C" fn gudrenoss_exponents_from_rank(
     r: u64,
     entries: &mut [u64],
     written: &mut u64,
-) -> u64
+) -> Status
     ensures back { λ a. ⌜ a ≡ status (placesOf (fromRankSays n k r (length (now (entries .entry))))) ⌝ }
     ensures written { λ a. ⌜ now (written .exit) ≡ stored itself (placesOf (fromRankSays n k r (length (now (entries .entry))))) (now (written .entry)) ⌝ }
     ensures holds { λ a. ⌜ now (entries .exit) ≡ after (fromRankSays n k r (length (now (entries .entry)))) (now (entries .entry)) ⌝ }
@@ -69,7 +70,7 @@ pub extern "C" fn gudrenoss_exponents_add(
     right: &[u64],
     entries: &mut [u64],
     written: &mut u64,
-) -> u64
+) -> Status
     ensures back { λ r. ⌜ r ≡ status (placesOf (addSays (now (left .entry)) (now (right .entry)) (length (now (entries .entry))))) ⌝ }
     ensures written { λ r. ⌜ now (written .exit) ≡ stored itself (placesOf (addSays (now (left .entry)) (now (right .entry)) (length (now (entries .entry))))) (now (written .entry)) ⌝ }
     ensures holds { λ r. ⌜ now (entries .exit) ≡ after (addSays (now (left .entry)) (now (right .entry)) (length (now (entries .entry)))) (now (entries .entry)) ⌝ }

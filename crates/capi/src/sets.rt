@@ -4,11 +4,12 @@ ghost use mathlib.Core.Path.{_≡_};
 ghost use Rattle.words.specs.Bits.{setBits};
 ghost use Rattle.bits.specs.Member.{holds};
 ghost use Rattle.combination.specs.Rules.{insertSays, positionSays, selectSays};
-ghost use Rattle.boundary.specs.Boundary.{status, stored, itself};
+ghost use Rattle.boundary.specs.Boundary.{answered, status, stored, itself};
+use boundary::Status;
 
 // The set with the symbol s: 7 if s is above 63; 5 if the set has it.
 #[no_mangle]
-pub extern "C" fn gudrenoss_set_insert(set: u64, s: u64, with: &mut u64) -> u64
+pub extern "C" fn gudrenoss_set_insert(set: u64, s: u64, with: &mut u64) -> Status
     ensures back { λ r. ⌜ r ≡ status (insertSays set s) ⌝ }
     ensures holds { λ r. ⌜ now (with .exit) ≡ stored itself (insertSays set s) (now (with .entry)) ⌝ }
 {
@@ -17,17 +18,17 @@ pub extern "C" fn gudrenoss_set_insert(set: u64, s: u64, with: &mut u64) -> u64
 
 // Whether the set has the symbol s; no from 64 up. Never refused.
 #[no_mangle]
-pub extern "C" fn gudrenoss_set_contains(set: u64, s: u64, contains: &mut bool) -> u64
-    ensures back { λ r. ⌜ r ≡ 0 ⌝ }
+pub extern "C" fn gudrenoss_set_contains(set: u64, s: u64, contains: &mut bool) -> Status
+    ensures back { λ r. ⌜ r ≡ answered ⌝ }
     ensures holds { λ r. ⌜ now (contains .exit) ≡ holds s (setBits set) ⌝ }
 {
     *contains = combination::contains(set, s);
-    0
+    boundary::answer()
 }
 
 // The position of the symbol s in the set: 7 if the set has no s.
 #[no_mangle]
-pub extern "C" fn gudrenoss_set_position(set: u64, s: u64, position: &mut u64) -> u64
+pub extern "C" fn gudrenoss_set_position(set: u64, s: u64, position: &mut u64) -> Status
     ensures back { λ r. ⌜ r ≡ status (positionSays set s) ⌝ }
     ensures holds { λ r. ⌜ now (position .exit) ≡ stored itself (positionSays set s) (now (position .entry)) ⌝ }
 {
@@ -36,7 +37,7 @@ pub extern "C" fn gudrenoss_set_position(set: u64, s: u64, position: &mut u64) -
 
 // The symbols of the set at the given positions, which are a set too: 7 if a position is not below the number of symbols.
 #[no_mangle]
-pub extern "C" fn gudrenoss_set_select(set: u64, positions: u64, selected: &mut u64) -> u64
+pub extern "C" fn gudrenoss_set_select(set: u64, positions: u64, selected: &mut u64) -> Status
     ensures back { λ r. ⌜ r ≡ status (selectSays set positions) ⌝ }
     ensures holds { λ r. ⌜ now (selected .exit) ≡ stored itself (selectSays set positions) (now (selected .entry)) ⌝ }
 {

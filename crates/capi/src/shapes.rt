@@ -5,10 +5,11 @@ ghost use lib.ListN.{length};
 ghost use Rattle.answers.specs.Says.{after, placesOf};
 ghost use Rattle.cartesian.specs.Rules.{countSays, stridesSays, linearizeSays, delinearizeSays, cornerSays};
 ghost use Rattle.boundary.specs.Boundary.{status, stored, itself};
+use boundary::Status;
 
 // How many digit tuples a shape has, the product of its radices: 1 if there are more than 16 axes; 9 by partial products.
 #[no_mangle]
-pub extern "C" fn gudrenoss_shape_count(radices: &[u64], count: &mut u64) -> u64
+pub extern "C" fn gudrenoss_shape_count(radices: &[u64], count: &mut u64) -> Status
     ensures back { λ r. ⌜ r ≡ status (countSays (now (radices .entry))) ⌝ }
     ensures holds { λ r. ⌜ now (count .exit) ≡ stored itself (countSays (now (radices .entry))) (now (count .entry)) ⌝ }
 {
@@ -22,7 +23,7 @@ pub extern "C" fn gudrenoss_shape_strides(
     radices: &[u64],
     strides: &mut [u64],
     written: &mut u64,
-) -> u64
+) -> Status
     ensures back { λ r. ⌜ r ≡ status (placesOf (stridesSays (now (radices .entry)) (length (now (strides .entry))))) ⌝ }
     ensures written { λ r. ⌜ now (written .exit) ≡ stored itself (placesOf (stridesSays (now (radices .entry)) (length (now (strides .entry))))) (now (written .entry)) ⌝ }
     ensures holds { λ r. ⌜ now (strides .exit) ≡ after (stridesSays (now (radices .entry)) (length (now (strides .entry)))) (now (strides .entry)) ⌝ }
@@ -36,7 +37,7 @@ pub extern "C" fn gudrenoss_shape_linearize(
     radices: &[u64],
     digits: &[u64],
     number: &mut u64,
-) -> u64
+) -> Status
     ensures back { λ r. ⌜ r ≡ status (linearizeSays (now (radices .entry)) (now (digits .entry))) ⌝ }
     ensures holds { λ r. ⌜ now (number .exit) ≡ stored itself (linearizeSays (now (radices .entry)) (now (digits .entry))) (now (number .entry)) ⌝ }
 {
@@ -51,7 +52,7 @@ pub extern "C" fn gudrenoss_shape_delinearize(
     number: u64,
     digits: &mut [u64],
     written: &mut u64,
-) -> u64
+) -> Status
     ensures back { λ r. ⌜ r ≡ status (placesOf (delinearizeSays (now (radices .entry)) number (length (now (digits .entry))))) ⌝ }
     ensures written { λ r. ⌜ now (written .exit) ≡ stored itself (placesOf (delinearizeSays (now (radices .entry)) number (length (now (digits .entry))))) (now (written .entry)) ⌝ }
     ensures holds { λ r. ⌜ now (digits .exit) ≡ after (delinearizeSays (now (radices .entry)) number (length (now (digits .entry)))) (now (digits .entry)) ⌝ }
@@ -62,7 +63,7 @@ pub extern "C" fn gudrenoss_shape_delinearize(
 // The offset of a corner, the exact sum of the strides of the axes in a set: 1 if there are more than 16 axes; 7 if a member of the set is not below the number of
 // axes; 9 if the sum is 2^64 or more.
 #[no_mangle]
-pub extern "C" fn gudrenoss_shape_corner(radices: &[u64], axes: u64, offset: &mut u64) -> u64
+pub extern "C" fn gudrenoss_shape_corner(radices: &[u64], axes: u64, offset: &mut u64) -> Status
     ensures back { λ r. ⌜ r ≡ status (cornerSays (now (radices .entry)) axes) ⌝ }
     ensures holds { λ r. ⌜ now (offset .exit) ≡ stored itself (cornerSays (now (radices .entry)) axes) (now (offset .entry)) ⌝ }
 {

@@ -4,6 +4,7 @@ ghost use mathlib.Core.Path.{_≡_};
 ghost use Rattle.algebra.specs.Rules.{canonicalSays, mergeSays};
 ghost use Rattle.deletion.specs.Rules.{deleteSays, complementSays, stabilizerSays};
 ghost use Rattle.boundary.specs.Boundary.{familyOf, indexAt, status, stored, itself, minusOfTerm, bitsOfTerm, minusOfRemoved, symbolOfRemoved, bitsOfRemoved};
+use boundary::Status;
 
 // The sign of a word given in any order, and the bits of the index of the sorted word: 1 if it has more than 64 symbols; 5 if a Forbidden symbol stands twice; 1 if
 // the last shifted symbol of the sorted word is above 63.
@@ -13,7 +14,7 @@ pub extern "C" fn gudrenoss_canonicalise(
     word: &[u64],
     minus: &mut bool,
     bits: &mut u64,
-) -> u64
+) -> Status
     ensures back { λ r. ⌜ r ≡ status (canonicalSays (familyOf allowed) (now (word .entry))) ⌝ }
     ensures sign { λ r. ⌜ now (minus .exit) ≡ stored minusOfTerm (canonicalSays (familyOf allowed) (now (word .entry))) (now (minus .entry)) ⌝ }
     ensures bits { λ r. ⌜ now (bits .exit) ≡ stored bitsOfTerm (canonicalSays (familyOf allowed) (now (word .entry))) (now (bits .entry)) ⌝ }
@@ -35,7 +36,7 @@ pub extern "C" fn gudrenoss_merge(
     right_bits: u64,
     minus: &mut bool,
     bits: &mut u64,
-) -> u64
+) -> Status
     ensures back { λ r. ⌜ r ≡ status (mergeSays (indexAt «left_allowed» «left_bits») (indexAt «right_allowed» «right_bits»)) ⌝ }
     ensures sign { λ r. ⌜ now (minus .exit) ≡ stored minusOfTerm (mergeSays (indexAt «left_allowed» «left_bits») (indexAt «right_allowed» «right_bits»)) (now (minus .entry)) ⌝ }
     ensures bits { λ r. ⌜ now (bits .exit) ≡ stored bitsOfTerm (mergeSays (indexAt «left_allowed» «left_bits») (indexAt «right_allowed» «right_bits»)) (now (bits .entry)) ⌝ }
@@ -54,7 +55,7 @@ pub extern "C" fn gudrenoss_delete(
     minus: &mut bool,
     symbol: &mut u64,
     rest: &mut u64,
-) -> u64
+) -> Status
     ensures back { λ r. ⌜ r ≡ status (deleteSays (indexAt allowed bits) p) ⌝ }
     ensures sign { λ r. ⌜ now (minus .exit) ≡ stored minusOfRemoved (deleteSays (indexAt allowed bits) p) (now (minus .entry)) ⌝ }
     ensures symbol { λ r. ⌜ now (symbol .exit) ≡ stored symbolOfRemoved (deleteSays (indexAt allowed bits) p) (now (symbol .entry)) ⌝ }
@@ -76,7 +77,7 @@ pub extern "C" fn gudrenoss_complement(
     n: u64,
     minus: &mut bool,
     rest: &mut u64,
-) -> u64
+) -> Status
     ensures back { λ r. ⌜ r ≡ status (complementSays (indexAt allowed bits) n) ⌝ }
     ensures sign { λ r. ⌜ now (minus .exit) ≡ stored minusOfTerm (complementSays (indexAt allowed bits) n) (now (minus .entry)) ⌝ }
     ensures rest { λ r. ⌜ now (rest .exit) ≡ stored bitsOfTerm (complementSays (indexAt allowed bits) n) (now (rest .entry)) ⌝ }
@@ -90,7 +91,7 @@ pub extern "C" fn gudrenoss_complement(
 
 // The product of the factorials of the multiplicities of the word of an index: 9 if it is 2^64 or more.
 #[no_mangle]
-pub extern "C" fn gudrenoss_stabilizer(allowed: bool, bits: u64, stabilizer: &mut u64) -> u64
+pub extern "C" fn gudrenoss_stabilizer(allowed: bool, bits: u64, stabilizer: &mut u64) -> Status
     ensures back { λ r. ⌜ r ≡ status (stabilizerSays (indexAt allowed bits)) ⌝ }
     ensures holds { λ r. ⌜ now (stabilizer .exit) ≡ stored itself (stabilizerSays (indexAt allowed bits)) (now (stabilizer .entry)) ⌝ }
 {

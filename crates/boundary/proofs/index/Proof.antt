@@ -6,11 +6,11 @@ use Rattle.boundary.proofs.index.Reads as reads
 use Rattle.boundary.proofs.index.Lts as lts
 use Rattle.boundary.proofs.family.Reads as family-reads
 
--- src/lib.rt:36:9
+-- src/lib.rt:60:9
 family-requires : tie.Need-family-requires
 family-requires c κs = search needs
 
--- src/lib.rt:33:1
+-- src/lib.rt:57:1
 returns : tie.Need-returns
 returns c = ap (λ f. record { family = f; bits = c .before .args .bits }) (c .family .ensures)
 

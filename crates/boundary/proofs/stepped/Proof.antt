@@ -4,37 +4,42 @@ use Rattle.boundary.proofs.stepped.Statement.{statement}
 use Rattle.boundary.proofs.stepped.Tie as tie
 use Rattle.boundary.proofs.stepped.Reads as reads
 use Rattle.boundary.proofs.stepped.Lts as lts
-use Rattle.answers.proofs.number.Reads as number-reads
+use Rattle.boundary.proofs.answer.Reads as answer-reads
 use Rattle.boundary.proofs.bits_there.Reads as bits-there-reads
 use Rattle.boundary.proofs.is_standing.Reads as is-standing-reads
+use Rattle.boundary.proofs.refused.Reads as refused-reads
 
--- src/lib.rt:178:23
+-- src/lib.rt:202:23
 enum-known-a : tie.Need-enum-known-a
 enum-known-a c = search needs
 
--- src/lib.rt:180:25
+-- src/lib.rt:204:25
 is-standing-requires : tie.Need-is-standing-requires
 is-standing-requires c κs = search needs
 
--- src/lib.rt:181:19
+-- src/lib.rt:205:19
 bits-there-requires : tie.Need-bits-there-requires
 bits-there-requires c κs = search needs
 
--- src/lib.rt:186:26
+-- src/lib.rt:208:13
+answer-requires : tie.Need-answer-requires
+answer-requires c κs = search needs
+
+-- src/lib.rt:210:26
 enum-known-a-2 : tie.Need-enum-known-a-2
 enum-known-a-2 c = search needs
 
--- src/lib.rt:186:32
-number-requires : tie.Need-number-requires
-number-requires c κs = search needs
+-- src/lib.rt:210:32
+refused-requires : tie.Need-refused-requires
+refused-requires c κs = search needs
 
--- src/lib.rt:164:1
+-- src/lib.rt:188:1
 returns : tie.Need-returns
-returns c = simp (c .before .before .before .a .given .1, c .before .is-standing .ensures, c .bits-there .ensures) (refl, (refl, (refl, (refl, refl))))
+returns c = simp (c .before .before .before .before .a .given .1, c .before .before .is-standing .ensures, c .before .bits-there .ensures, c .answer .ensures) (refl, (refl, (refl, (refl, refl))))
 
--- src/lib.rt:164:1
+-- src/lib.rt:188:1
 returns-2 : tie.Need-returns-2
-returns-2 c = simp (c .before .before .a2 .given .1, c .number .ensures) (refl, (refl, (refl, (refl, refl))))
+returns-2 c = simp (c .before .before .a2 .given .1, c .refused .ensures) (refl, (refl, (refl, (refl, refl))))
 
 pub stepped-spec : {M : Type 1} → statement M
 stepped-spec =
@@ -43,7 +48,8 @@ stepped-spec =
     enum-known-a
     is-standing-requires
     bits-there-requires
+    answer-requires
     enum-known-a-2
-    number-requires
+    refused-requires
     returns
     returns-2)

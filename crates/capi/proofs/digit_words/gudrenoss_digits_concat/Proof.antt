@@ -6,15 +6,15 @@ use Rattle.capi.proofs.digit_words.gudrenoss_digits_concat.Lts as lts
 use Rattle.capi.proofs.digit_words.worded.Reads as worded-reads
 use Rattle.digits.proofs.concat.Reads as concat-reads
 
--- src/digit_words.rt:177:12
+-- src/digit_words.rt:178:12
 concat-requires : tie.Need-concat-requires
 concat-requires c κs = search needs
 
--- src/digit_words.rt:177:5
+-- src/digit_words.rt:178:5
 worded-requires : tie.Need-worded-requires
 worded-requires c κs = search needs
 
--- src/digit_words.rt:152:1
+-- src/digit_words.rt:153:1
 returns : tie.Need-returns
 returns c = simp (c .before .before .before .concat .ensures) at (c .worded .ensures)
 

@@ -6,15 +6,15 @@ use Rattle.capi.proofs.digit_words.gudrenoss_digits_count.Lts as lts
 use Rattle.boundary.proofs.number.Reads as number-reads
 use Rattle.digits.proofs.count.Reads as count-reads
 
--- src/digit_words.rt:51:22
+-- src/digit_words.rt:52:22
 count-requires : tie.Need-count-requires
 count-requires c κs = search needs
 
--- src/digit_words.rt:51:5
+-- src/digit_words.rt:52:5
 number-requires : tie.Need-number-requires
 number-requires c κs = search needs
 
--- src/digit_words.rt:46:1
+-- src/digit_words.rt:47:1
 returns : tie.Need-returns
 returns c = simp (c .before .before .count .ensures) at (c .number .ensures)
 

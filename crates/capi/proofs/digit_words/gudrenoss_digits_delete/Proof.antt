@@ -6,15 +6,15 @@ use Rattle.capi.proofs.digit_words.gudrenoss_digits_delete.Lts as lts
 use Rattle.capi.proofs.digit_words.deleted.Reads as deleted-reads
 use Rattle.digits.proofs.delete.Reads as delete-reads
 
--- src/digit_words.rt:199:13
+-- src/digit_words.rt:200:13
 delete-requires : tie.Need-delete-requires
 delete-requires c κs = search needs
 
--- src/digit_words.rt:199:5
+-- src/digit_words.rt:200:5
 deleted-requires : tie.Need-deleted-requires
 deleted-requires c κs = search needs
 
--- src/digit_words.rt:181:1
+-- src/digit_words.rt:182:1
 returns : tie.Need-returns
 returns c = simp (c .before .before .before .delete .ensures) at (c .deleted .ensures)
 

@@ -6,15 +6,15 @@ use Rattle.capi.proofs.digit_words.gudrenoss_digits_from_symbols.Lts as
 use Rattle.capi.proofs.digit_words.worded.Reads as worded-reads
 use Rattle.digits.proofs.from_symbols.Reads as from-symbols-reads
 
--- src/digit_words.rt:67:12
+-- src/digit_words.rt:68:12
 from-symbols-requires : tie.Need-from-symbols-requires
 from-symbols-requires c κs = search needs
 
--- src/digit_words.rt:67:5
+-- src/digit_words.rt:68:5
 worded-requires : tie.Need-worded-requires
 worded-requires c κs = search needs
 
--- src/digit_words.rt:56:1
+-- src/digit_words.rt:57:1
 returns : tie.Need-returns
 returns c = simp (c .before .before .before .from-symbols .ensures) at (c .worded .ensures)
 

@@ -6,15 +6,15 @@ use Rattle.capi.proofs.digit_words.gudrenoss_digits_multiplicity.Lts as
 use Rattle.boundary.proofs.number.Reads as number-reads
 use Rattle.digits.proofs.multiplicity.Reads as multiplicity-reads
 
--- src/digit_words.rt:128:22
+-- src/digit_words.rt:129:22
 multiplicity-requires : tie.Need-multiplicity-requires
 multiplicity-requires c κs = search needs
 
--- src/digit_words.rt:128:5
+-- src/digit_words.rt:129:5
 number-requires : tie.Need-number-requires
 number-requires c κs = search needs
 
--- src/digit_words.rt:112:1
+-- src/digit_words.rt:113:1
 returns : tie.Need-returns
 returns c = simp (c .before .before .multiplicity .ensures) at (c .number .ensures)
 

@@ -6,15 +6,15 @@ use Rattle.capi.proofs.digit_words.gudrenoss_digits_stabilizer.Lts as l
 use Rattle.boundary.proofs.number.Reads as number-reads
 use Rattle.digits.proofs.stabilizer.Reads as stabilizer-reads
 
--- src/digit_words.rt:147:22
+-- src/digit_words.rt:148:22
 stabilizer-requires : tie.Need-stabilizer-requires
 stabilizer-requires c κs = search needs
 
--- src/digit_words.rt:147:5
+-- src/digit_words.rt:148:5
 number-requires : tie.Need-number-requires
 number-requires c κs = search needs
 
--- src/digit_words.rt:132:1
+-- src/digit_words.rt:133:1
 returns : tie.Need-returns
 returns c = simp (c .before .before .stabilizer .ensures) at (c .number .ensures)
 

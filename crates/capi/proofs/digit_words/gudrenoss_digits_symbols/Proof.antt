@@ -7,19 +7,19 @@ use Rattle.capi.proofs.digit_words.gudrenoss_digits_symbols.Lts as lts
 use Rattle.boundary.proofs.number.Reads as number-reads
 use Rattle.digits.proofs.symbols.Reads as symbols-reads
 
--- src/digit_words.rt:88:22
+-- src/digit_words.rt:89:22
 symbols-requires : tie.Need-symbols-requires
 symbols-requires c κs = search needs
 
--- src/digit_words.rt:88:5
+-- src/digit_words.rt:89:5
 number-requires : tie.Need-number-requires
 number-requires c κs = search needs
 
--- src/digit_words.rt:71:1
+-- src/digit_words.rt:72:1
 same-length : tie.Need-same-length
 same-length c = search needs
 
--- src/digit_words.rt:71:1
+-- src/digit_words.rt:72:1
 returns : tie.Need-returns
 returns c = simp (sym (c .before .before .before .before .symbols .ensures .0)) (c .number .ensures .0, (c .number .ensures .1, c .before .before .before .before .symbols .ensures .1))
 

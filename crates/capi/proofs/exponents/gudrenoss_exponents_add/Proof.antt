@@ -7,19 +7,19 @@ use Rattle.capi.proofs.exponents.gudrenoss_exponents_add.Lts as lts
 use Rattle.boundary.proofs.number.Reads as number-reads
 use Rattle.composition.proofs.add.Reads as add-reads
 
--- src/exponents.rt:77:22
+-- src/exponents.rt:78:22
 add-requires : tie.Need-add-requires
 add-requires c κs = search needs
 
--- src/exponents.rt:77:5
+-- src/exponents.rt:78:5
 number-requires : tie.Need-number-requires
 number-requires c κs = search needs
 
--- src/exponents.rt:66:1
+-- src/exponents.rt:67:1
 same-length : tie.Need-same-length
 same-length c = search needs
 
--- src/exponents.rt:66:1
+-- src/exponents.rt:67:1
 returns : tie.Need-returns
 returns c = simp (sym (c .before .before .before .before .add .ensures .0)) (c .number .ensures .0, (c .number .ensures .1, c .before .before .before .before .add .ensures .1))
 

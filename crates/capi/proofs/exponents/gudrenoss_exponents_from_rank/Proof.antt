@@ -7,19 +7,19 @@ use Rattle.capi.proofs.exponents.gudrenoss_exponents_from_rank.Lts as l
 use Rattle.boundary.proofs.number.Reads as number-reads
 use Rattle.composition.proofs.from_rank.Reads as from-rank-reads
 
--- src/exponents.rt:61:22
+-- src/exponents.rt:62:22
 from-rank-requires : tie.Need-from-rank-requires
 from-rank-requires c κs = search needs
 
--- src/exponents.rt:61:5
+-- src/exponents.rt:62:5
 number-requires : tie.Need-number-requires
 number-requires c κs = search needs
 
--- src/exponents.rt:49:1
+-- src/exponents.rt:50:1
 same-length : tie.Need-same-length
 same-length c = search needs
 
--- src/exponents.rt:49:1
+-- src/exponents.rt:50:1
 returns : tie.Need-returns
 returns c = simp (sym (c .before .before .before .before .from-rank .ensures .0)) (c .number .ensures .0, (c .number .ensures .1, c .before .before .before .before .from-rank .ensures .1))
 

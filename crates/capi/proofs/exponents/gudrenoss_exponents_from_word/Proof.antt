@@ -7,19 +7,19 @@ use Rattle.capi.proofs.exponents.gudrenoss_exponents_from_word.Lts as l
 use Rattle.boundary.proofs.number.Reads as number-reads
 use Rattle.composition.proofs.from_word.Reads as from-word-reads
 
--- src/exponents.rt:36:22
+-- src/exponents.rt:37:22
 from-word-requires : tie.Need-from-word-requires
 from-word-requires c κs = search needs
 
--- src/exponents.rt:36:5
+-- src/exponents.rt:37:5
 number-requires : tie.Need-number-requires
 number-requires c κs = search needs
 
--- src/exponents.rt:25:1
+-- src/exponents.rt:26:1
 same-length : tie.Need-same-length
 same-length c = search needs
 
--- src/exponents.rt:25:1
+-- src/exponents.rt:26:1
 returns : tie.Need-returns
 returns c = simp (sym (c .before .before .before .before .from-word .ensures .0)) (c .number .ensures .0, (c .number .ensures .1, c .before .before .before .before .from-word .ensures .1))
 

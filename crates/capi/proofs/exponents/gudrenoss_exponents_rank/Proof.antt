@@ -6,15 +6,15 @@ use Rattle.capi.proofs.exponents.gudrenoss_exponents_rank.Lts as lts
 use Rattle.boundary.proofs.number.Reads as number-reads
 use Rattle.composition.proofs.rank.Reads as rank-reads
 
--- src/exponents.rt:45:22
+-- src/exponents.rt:46:22
 rank-requires : tie.Need-rank-requires
 rank-requires c κs = search needs
 
--- src/exponents.rt:45:5
+-- src/exponents.rt:46:5
 number-requires : tie.Need-number-requires
 number-requires c κs = search needs
 
--- src/exponents.rt:40:1
+-- src/exponents.rt:41:1
 returns : tie.Need-returns
 returns c = simp (c .before .before .rank .ensures) at (c .number .ensures)
 

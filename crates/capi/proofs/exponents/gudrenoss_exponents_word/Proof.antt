@@ -7,19 +7,19 @@ use Rattle.capi.proofs.exponents.gudrenoss_exponents_word.Lts as lts
 use Rattle.boundary.proofs.number.Reads as number-reads
 use Rattle.composition.proofs.word.Reads as word-reads
 
--- src/exponents.rt:20:22
+-- src/exponents.rt:21:22
 word-requires : tie.Need-word-requires
 word-requires c κs = search needs
 
--- src/exponents.rt:20:5
+-- src/exponents.rt:21:5
 number-requires : tie.Need-number-requires
 number-requires c κs = search needs
 
--- src/exponents.rt:10:1
+-- src/exponents.rt:11:1
 same-length : tie.Need-same-length
 same-length c = search needs
 
--- src/exponents.rt:10:1
+-- src/exponents.rt:11:1
 returns : tie.Need-returns
 returns c = simp (sym (c .before .before .before .before .word .ensures .0)) (c .number .ensures .0, (c .number .ensures .1, c .before .before .before .before .word .ensures .1))
 

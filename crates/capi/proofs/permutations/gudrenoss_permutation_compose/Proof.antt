@@ -9,15 +9,15 @@ use Rattle.permutation.proofs.compose.Reads as compose-reads
 use Rattle.boundary.specs.Boundary.{status}
 use Rattle.capi.proofs.Entries.{stored-entries}
 
--- src/permutations.rt:74:14
+-- src/permutations.rt:75:14
 compose-requires : tie.Need-compose-requires
 compose-requires c κs = search needs
 
--- src/permutations.rt:74:5
+-- src/permutations.rt:75:5
 arranged-requires : tie.Need-arranged-requires
 arranged-requires c κs = search needs
 
--- src/permutations.rt:65:1
+-- src/permutations.rt:66:1
 returns : tie.Need-returns
 returns c = (c .arranged .ensures .0 ∙ ap (λ s. status s) (c .before .before .compose .ensures .says), c .arranged .ensures .1 ∙ stored-entries _ _ _ (c .before .before .compose .ensures))
 

@@ -6,15 +6,15 @@ use Rattle.capi.proofs.permutations.gudrenoss_permutation_image.Lts as 
 use Rattle.boundary.proofs.number.Reads as number-reads
 use Rattle.permutation.proofs.image.Reads as image-reads
 
--- src/permutations.rt:52:22
+-- src/permutations.rt:53:22
 image-requires : tie.Need-image-requires
 image-requires c κs = search needs
 
--- src/permutations.rt:52:5
+-- src/permutations.rt:53:5
 number-requires : tie.Need-number-requires
 number-requires c κs = search needs
 
--- src/permutations.rt:47:1
+-- src/permutations.rt:48:1
 returns : tie.Need-returns
 returns c = simp (c .before .before .image .ensures) at (c .number .ensures)
 

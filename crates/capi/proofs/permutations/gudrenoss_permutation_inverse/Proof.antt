@@ -9,15 +9,15 @@ use Rattle.permutation.proofs.inverse.Reads as inverse-reads
 use Rattle.boundary.specs.Boundary.{status}
 use Rattle.capi.proofs.Entries.{stored-entries}
 
--- src/permutations.rt:61:14
+-- src/permutations.rt:62:14
 inverse-requires : tie.Need-inverse-requires
 inverse-requires c κs = search needs
 
--- src/permutations.rt:61:5
+-- src/permutations.rt:62:5
 arranged-requires : tie.Need-arranged-requires
 arranged-requires c κs = search needs
 
--- src/permutations.rt:56:1
+-- src/permutations.rt:57:1
 returns : tie.Need-returns
 returns c = (c .arranged .ensures .0 ∙ ap (λ s. status s) (c .before .before .inverse .ensures .says), c .arranged .ensures .1 ∙ stored-entries _ _ _ (c .before .before .inverse .ensures))
 

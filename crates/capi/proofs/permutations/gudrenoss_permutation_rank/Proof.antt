@@ -6,15 +6,15 @@ use Rattle.capi.proofs.permutations.gudrenoss_permutation_rank.Lts as l
 use Rattle.boundary.proofs.number.Reads as number-reads
 use Rattle.permutation_order.proofs.rank.Reads as rank-reads
 
--- src/permutations.rt:92:22
+-- src/permutations.rt:93:22
 rank-requires : tie.Need-rank-requires
 rank-requires c κs = search needs
 
--- src/permutations.rt:92:5
+-- src/permutations.rt:93:5
 number-requires : tie.Need-number-requires
 number-requires c κs = search needs
 
--- src/permutations.rt:87:1
+-- src/permutations.rt:88:1
 returns : tie.Need-returns
 returns c = simp (c .before .before .rank .ensures) at (c .number .ensures)
 

@@ -6,15 +6,15 @@ use Rattle.capi.proofs.permutations.gudrenoss_permutation_sign.Lts as l
 use Rattle.capi.proofs.permutations.signed.Reads as signed-reads
 use Rattle.permutation.proofs.sign.Reads as sign-reads
 
--- src/permutations.rt:83:12
+-- src/permutations.rt:84:12
 sign-requires : tie.Need-sign-requires
 sign-requires c κs = search needs
 
--- src/permutations.rt:83:5
+-- src/permutations.rt:84:5
 signed-requires : tie.Need-signed-requires
 signed-requires c κs = search needs
 
--- src/permutations.rt:78:1
+-- src/permutations.rt:79:1
 returns : tie.Need-returns
 returns c = simp (c .before .before .sign .ensures) at (c .signed .ensures)
 

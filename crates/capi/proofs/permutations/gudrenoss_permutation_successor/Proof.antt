@@ -9,15 +9,15 @@ use Rattle.permutation_order.proofs.successor.Reads as successor-reads
 use Rattle.boundary.specs.Boundary.{status}
 use Rattle.capi.proofs.Entries.{stored-entries}
 
--- src/permutations.rt:110:14
+-- src/permutations.rt:111:14
 successor-requires : tie.Need-successor-requires
 successor-requires c κs = search needs
 
--- src/permutations.rt:110:5
+-- src/permutations.rt:111:5
 arranged-requires : tie.Need-arranged-requires
 arranged-requires c κs = search needs
 
--- src/permutations.rt:105:1
+-- src/permutations.rt:106:1
 returns : tie.Need-returns
 returns c = (c .arranged .ensures .0 ∙ ap (λ s. status s) (c .before .before .successor .ensures .says), c .arranged .ensures .1 ∙ stored-entries _ _ _ (c .before .before .successor .ensures))
 

@@ -9,15 +9,15 @@ use Rattle.permutation_order.proofs.unrank.Reads as unrank-reads
 use Rattle.boundary.specs.Boundary.{status}
 use Rattle.capi.proofs.Entries.{stored-entries}
 
--- src/permutations.rt:101:14
+-- src/permutations.rt:102:14
 unrank-requires : tie.Need-unrank-requires
 unrank-requires c κs = search needs
 
--- src/permutations.rt:101:5
+-- src/permutations.rt:102:5
 arranged-requires : tie.Need-arranged-requires
 arranged-requires c κs = search needs
 
--- src/permutations.rt:96:1
+-- src/permutations.rt:97:1
 returns : tie.Need-returns
 returns c = (c .arranged .ensures .0 ∙ ap (λ s. status s) (c .before .before .unrank .ensures .says), c .arranged .ensures .1 ∙ stored-entries _ _ _ (c .before .before .unrank .ensures))
 

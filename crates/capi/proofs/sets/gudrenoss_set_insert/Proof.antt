@@ -6,15 +6,15 @@ use Rattle.capi.proofs.sets.gudrenoss_set_insert.Lts as lts
 use Rattle.boundary.proofs.number.Reads as number-reads
 use Rattle.combination.proofs.insert.Reads as insert-reads
 
--- src/sets.rt:15:22
+-- src/sets.rt:16:22
 insert-requires : tie.Need-insert-requires
 insert-requires c κs = search needs
 
--- src/sets.rt:15:5
+-- src/sets.rt:16:5
 number-requires : tie.Need-number-requires
 number-requires c κs = search needs
 
--- src/sets.rt:10:1
+-- src/sets.rt:11:1
 returns : tie.Need-returns
 returns c = simp (c .before .before .insert .ensures) at (c .number .ensures)
 

@@ -6,15 +6,15 @@ use Rattle.capi.proofs.shapes.gudrenoss_shape_corner.Lts as lts
 use Rattle.boundary.proofs.number.Reads as number-reads
 use Rattle.cartesian.proofs.corner.Reads as corner-reads
 
--- src/shapes.rt:69:22
+-- src/shapes.rt:70:22
 corner-requires : tie.Need-corner-requires
 corner-requires c κs = search needs
 
--- src/shapes.rt:69:5
+-- src/shapes.rt:70:5
 number-requires : tie.Need-number-requires
 number-requires c κs = search needs
 
--- src/shapes.rt:64:1
+-- src/shapes.rt:65:1
 returns : tie.Need-returns
 returns c = simp (c .before .before .corner .ensures) at (c .number .ensures)
 

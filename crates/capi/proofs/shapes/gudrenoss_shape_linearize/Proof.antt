@@ -6,15 +6,15 @@ use Rattle.capi.proofs.shapes.gudrenoss_shape_linearize.Lts as lts
 use Rattle.boundary.proofs.number.Reads as number-reads
 use Rattle.cartesian.proofs.linearize.Reads as linearize-reads
 
--- src/shapes.rt:43:22
+-- src/shapes.rt:44:22
 linearize-requires : tie.Need-linearize-requires
 linearize-requires c κs = search needs
 
--- src/shapes.rt:43:5
+-- src/shapes.rt:44:5
 number-requires : tie.Need-number-requires
 number-requires c κs = search needs
 
--- src/shapes.rt:34:1
+-- src/shapes.rt:35:1
 returns : tie.Need-returns
 returns c = simp (c .before .before .linearize .ensures) at (c .number .ensures)
 

@@ -7,23 +7,23 @@ use Rattle.algebra.proofs.merge.Reads as merge-reads
 use Rattle.boundary.proofs.index.Reads as index-reads
 use Rattle.boundary.proofs.signed.Reads as signed-reads
 
--- src/signed.rt:43:16
+-- src/signed.rt:44:16
 index-requires : tie.Need-index-requires
 index-requires c κs = search needs
 
--- src/signed.rt:44:17
+-- src/signed.rt:45:17
 index-requires-2 : tie.Need-index-requires-2
 index-requires-2 c κs = search needs
 
--- src/signed.rt:45:22
+-- src/signed.rt:46:22
 merge-requires : tie.Need-merge-requires
 merge-requires c κs = search needs
 
--- src/signed.rt:45:5
+-- src/signed.rt:46:5
 signed-requires : tie.Need-signed-requires
 signed-requires c κs = search needs
 
--- src/signed.rt:30:1
+-- src/signed.rt:31:1
 returns : tie.Need-returns
 returns c = simp (c .before .before .before .merge .ensures, c .before .before .before .before .index2 .ensures, c .before .before .before .before .before .index .ensures) at (c .signed .ensures)
 

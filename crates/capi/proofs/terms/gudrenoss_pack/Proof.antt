@@ -7,19 +7,19 @@ use Rattle.boundary.proofs.bits.Reads as bits-reads
 use Rattle.boundary.proofs.family.Reads as family-reads
 use Rattle.monotone.proofs.pack.Reads as pack-reads
 
--- src/terms.rt:29:35
+-- src/terms.rt:30:35
 family-requires : tie.Need-family-requires
 family-requires c κs = search needs
 
--- src/terms.rt:29:20
+-- src/terms.rt:30:20
 pack-requires : tie.Need-pack-requires
 pack-requires c κs = search needs
 
--- src/terms.rt:29:5
+-- src/terms.rt:30:5
 bits-requires : tie.Need-bits-requires
 bits-requires c κs = search needs
 
--- src/terms.rt:24:1
+-- src/terms.rt:25:1
 returns : tie.Need-returns
 returns c = simp (c .before .before .pack .ensures, c .before .before .before .family .ensures) at (c .bits .ensures)
 

@@ -7,19 +7,19 @@ use Rattle.boundary.proofs.bits.Reads as bits-reads
 use Rattle.boundary.proofs.index.Reads as index-reads
 use Rattle.monotone.proofs.successor.Reads as successor-reads
 
--- src/terms.rt:141:40
+-- src/terms.rt:142:40
 index-requires : tie.Need-index-requires
 index-requires c κs = search needs
 
--- src/terms.rt:141:20
+-- src/terms.rt:142:20
 successor-requires : tie.Need-successor-requires
 successor-requires c κs = search needs
 
--- src/terms.rt:141:5
+-- src/terms.rt:142:5
 bits-requires : tie.Need-bits-requires
 bits-requires c κs = search needs
 
--- src/terms.rt:136:1
+-- src/terms.rt:137:1
 returns : tie.Need-returns
 returns c = simp (c .before .before .successor .ensures, c .before .before .before .index .ensures) at (c .bits .ensures)
 

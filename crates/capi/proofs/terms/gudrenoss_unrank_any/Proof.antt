@@ -7,19 +7,19 @@ use Rattle.boundary.proofs.bits.Reads as bits-reads
 use Rattle.boundary.proofs.family.Reads as family-reads
 use Rattle.monotone.proofs.unrank_any.Reads as unrank-any-reads
 
--- src/terms.rt:132:41
+-- src/terms.rt:133:41
 family-requires : tie.Need-family-requires
 family-requires c κs = search needs
 
--- src/terms.rt:132:20
+-- src/terms.rt:133:20
 unrank-any-requires : tie.Need-unrank-any-requires
 unrank-any-requires c κs = search needs
 
--- src/terms.rt:132:5
+-- src/terms.rt:133:5
 bits-requires : tie.Need-bits-requires
 bits-requires c κs = search needs
 
--- src/terms.rt:127:1
+-- src/terms.rt:128:1
 returns : tie.Need-returns
 returns c = simp (c .before .before .unrank-any .ensures, c .before .before .before .family .ensures) at (c .bits .ensures)
 

@@ -7,19 +7,19 @@ use Rattle.boundary.proofs.bits.Reads as bits-reads
 use Rattle.boundary.proofs.family.Reads as family-reads
 use Rattle.monotone.proofs.unrank_over.Reads as unrank-over-reads
 
--- src/terms.rt:121:31
+-- src/terms.rt:122:31
 family-requires : tie.Need-family-requires
 family-requires c κs = search needs
 
--- src/terms.rt:121:9
+-- src/terms.rt:122:9
 unrank-over-requires : tie.Need-unrank-over-requires
 unrank-over-requires c κs = search needs
 
--- src/terms.rt:120:5
+-- src/terms.rt:121:5
 bits-requires : tie.Need-bits-requires
 bits-requires c κs = search needs
 
--- src/terms.rt:109:1
+-- src/terms.rt:110:1
 returns : tie.Need-returns
 returns c = simp (c .before .before .unrank-over .ensures, c .before .before .before .family .ensures) at (c .bits .ensures)
 
