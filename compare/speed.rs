@@ -10,36 +10,46 @@ use std::time::{Duration, Instant};
 const SIZE: usize = 200_000;
 const ROUNDS: usize = 15;
 
+// What comes back over the C boundary: a refusal's number, 0 for an answer, and its place.
+#[repr(C)]
+struct Status {
+    number: u64,
+    at: u64,
+}
+
+const ANSWER: Status = Status { number: 0, at: 0 };
+const LAST: Status = Status { number: 4, at: 0 };
+
 #[link(name = "capi", kind = "static")]
 unsafe extern "C" {
-    fn gudrenoss_rank_of(allowed: bool, bits: u64, rank: &mut u64) -> u64;
-    fn gudrenoss_successor(allowed: bool, bits: u64, next: &mut u64) -> u64;
-    fn gudrenoss_unrank_any(allowed: bool, k: u64, r: u64, bits: &mut u64) -> u64;
+    fn gudrenoss_rank_of(allowed: bool, bits: u64, rank: &mut u64) -> Status;
+    fn gudrenoss_successor(allowed: bool, bits: u64, next: &mut u64) -> Status;
+    fn gudrenoss_unrank_any(allowed: bool, k: u64, r: u64, bits: &mut u64) -> Status;
 }
 
 // ---- the other side, as functions of the same shape
 
 #[inline(never)]
-extern "C" fn their_rank(_: bool, bits: u64, rank: &mut u64) -> u64 {
+extern "C" fn their_rank(_: bool, bits: u64, rank: &mut u64) -> Status {
     *rank = MonoIndex::from(Combination::from_bits(bits)).rank() as u64;
-    0
+    ANSWER
 }
 
 #[inline(never)]
-extern "C" fn their_successor(_: bool, bits: u64, next: &mut u64) -> u64 {
+extern "C" fn their_successor(_: bool, bits: u64, next: &mut u64) -> Status {
     match MonoIndex::from(Combination::from_bits(bits)).colex_successor() {
         Some(index) => {
             *next = index.shifted_bits();
-            0
+            ANSWER
         }
-        None => 4,
+        None => LAST,
     }
 }
 
 #[inline(never)]
-extern "C" fn their_unrank(_: bool, k: u64, r: u64, bits: &mut u64) -> u64 {
+extern "C" fn their_unrank(_: bool, k: u64, r: u64, bits: &mut u64) -> Status {
     *bits = MonoIndex::from_rank(Repetition::Forbidden, k as usize, r as usize).shifted_bits();
-    0
+    ANSWER
 }
 
 // ---- the inputs
@@ -70,12 +80,13 @@ fn sample(degrees: &[u64]) -> Vec<(u64, u64)> {
 
 // ---- the race
 
-fn timed(call: impl Fn(u64, u64, &mut u64) -> u64, inputs: &[(u64, u64)]) -> (Duration, u64) {
+fn timed(call: impl Fn(u64, u64, &mut u64) -> Status, inputs: &[(u64, u64)]) -> (Duration, u64) {
     let start = Instant::now();
     let mut sum = 0u64;
     for &(a, b) in inputs {
         let mut out = 0;
-        sum = sum.wrapping_mul(31).wrapping_add(call(a, b, &mut out)).wrapping_add(out);
+        let back = call(a, b, &mut out);
+        sum = sum.wrapping_mul(31).wrapping_add(back.number).wrapping_add(back.at).wrapping_add(out);
     }
     (start.elapsed(), sum)
 }
@@ -84,8 +95,8 @@ fn race(
     name: &str,
     group: &str,
     inputs: &[(u64, u64)],
-    ours: impl Fn(u64, u64, &mut u64) -> u64,
-    theirs: impl Fn(u64, u64, &mut u64) -> u64,
+    ours: impl Fn(u64, u64, &mut u64) -> Status,
+    theirs: impl Fn(u64, u64, &mut u64) -> Status,
 ) {
     let (mut here, mut there) = (Duration::MAX, Duration::MAX);
     for _ in 0..ROUNDS {
