@@ -30,16 +30,16 @@ use Rattle.promises.specs.Checked.{AllHold, none, _and_, bits, setOf, re
 -- ---- sets with a high symbol
 
 after-62 : successorSays (setOf (62 ∷ [])) ≡ gives (setOf (63 ∷ []))
-unfolding bitsOf nextFrom reset
-after-62 = simp (word-of-index Forbidden (62 ∷ []) tt)
+unfolding bitsOf nextFrom reset reaches
+after-62 = simp (word-of-index Forbidden 64 (62 ∷ []) tt)
 
 after-63 : successorSays (setOf (63 ∷ [])) ≡ refuses 4
-unfolding bitsOf nextFrom reset
-after-63 = simp (word-of-index Forbidden (63 ∷ []) tt)
+unfolding bitsOf nextFrom reset reaches
+after-63 = simp (word-of-index Forbidden 64 (63 ∷ []) tt)
 
 without-63 : deleteSays (setOf (0 ∷ 2 ∷ 63 ∷ [])) 2 ≡ gives (removed Plus 63 (bits Forbidden 5))
-unfolding bitsOf
-without-63 = simp (word-of-index Forbidden (0 ∷ 2 ∷ 63 ∷ []) (omega arith, (omega arith, tt)))
+unfolding bitsOf reaches
+without-63 = simp (word-of-index Forbidden 64 (0 ∷ 2 ∷ 63 ∷ []) (omega arith, (omega arith, tt)))
 
 -- ---- the list
 

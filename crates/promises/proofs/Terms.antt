@@ -3,58 +3,62 @@
 --   rank-tells-how-many-earlier    the rank of a word is how many words of its family and length are earlier in colex order
 --   index-rank-tells-how-many-earlier    and so is the rank of an index
 --   rank-is-a-sum-of-binomials    the rank is the sum of binomial(shifted symbol i, i + 1)
+--   word-ranked    a word over an alphabet that keeps the width limits passes the checks of a word
 --   unrank-gives-a-word-of-that-rank    unranking r over n gives a word over n, and ranking it gives r
 --   unrank-returns-a-ranked-word    ranking a word over n and unranking gives the word back
+--   Succeeds x y, successor-given    what an index with a successor has
 --   successor-is-later, nothing-between-index-and-successor    the successor is the next word
---   successor-refuses-exactly-at-the-last    4 exactly if no index of that family and degree in 64 bits is later
+--   successor-refuses-exactly-at-the-last    of an accepted index, 4 exactly if no word of that family and degree over its alphabet is later
+--   successor-refuses-exactly-at-the-top-bits    that is so exactly if its k ones stand at the top of the digits of its shifted alphabet
 --   walk-lists-the-words-in-order    a walk over n gives exactly the words over n, each once, in order, and then ends
 use mathlib.Core.Path.{_≡_, refl, sym, ap, subst, subst₂, _∙_}
-use mathlib.Core.Bool.{Bool, true, false}
+use mathlib.Core.Bool.{Bool, true, false, not}
 use mathlib.Core.Logic.{_↔_, _⊎_, inl, inr}
 use mathlib.Core.List.{List, [], _∷_}
-use Prim.Native.Nat.{ℕ, zero, suc, _+_, _-_, _^_, _≤_, _<_, zero-le}
-use native.Mathlib.Nat.{le-of-lt, le-of-eq, zero-lt-suc, suc-add, add-suc, add-zero, zero-add}
+use Prim.Native.Nat.{ℕ, zero, suc, _+_, _-_, _*_, _^_, _≤_, _<_, zero-le}
+use native.Mathlib.Nat.{zero-lt-suc, suc-add, add-suc, add-zero, zero-add}
 use native.Mathlib.Decide.{decLe}
 use native.Mathlib.Omega.{arith}
-use borrow.Author.Tests.{ltb-false, leb-false, leb-true, le-leb, eqb-true, eqb-false, eq-eqb, ne-eqb}
+use borrow.Author.Tests.{ltb-false, leb-false, eqb-true, eqb-false, not-false}
 use lib.Dec.{eqb, leb, ltb}
 use lib.ListN.{length, getD, take}
 use lib.Seq.{take-all}
 use Rattle.pascal.specs.Choose.{choose}
 use Rattle.words.specs.declared.Family.{Family}
-use Rattle.words.specs.Word.{Monotone, Below, Word, shift, shifted, shiftedAlphabet, count}
+use Rattle.words.specs.Word.{Monotone, Below, Word, shift, shifted, unshifted, shiftedAlphabet, count}
 use Rattle.words.specs.Colex.{ColexLt}
 use Rattle.words.specs.HowMany.{In, Distinct, HowMany}
 use Rattle.words.specs.Rank.{rankFrom, rankOf}
 use Rattle.words.specs.Unrank.{unrankOf}
-use Rattle.words.specs.Next.{next}
+use Rattle.words.specs.Next.{next, last}
 use Rattle.words.specs.Bits.{bitsOf, setBits}
-use Rattle.words.proofs.Colex.{to-colex, Compared, less, same, more, compare}
+use Rattle.bits.specs.Member.{reaches}
+use Rattle.bits.proofs.Member.{reaches-not}
+use Rattle.pascal.proofs.Choose.{choose-enough}
+use Rattle.words.proofs.Bits.{bits-of-set}
+use Rattle.words.proofs.Ends.{last-is-a-word, last-has-nothing-after, last-bits}
+use Rattle.words.proofs.Colex.{to-colex, from-colex}
 use Rattle.words.proofs.Rank.{rank-rises, rank-below-count, before-of-rank}
-use Rattle.words.proofs.Unrank.{unrank-long, unrank-monotone, unrank-is-a-word, rank-of-unrank, unrank-of-rank}
+use Rattle.words.proofs.Unrank.{unrank-long, unrank-monotone, unrank-is-a-word, rank-of-unrank, unrank-of-rank, word-by-rank}
 use Rattle.words.proofs.Positions.{shifted-below}
-use Rattle.words.proofs.Shifted.{shifted-long, shifted-monotone, colex-shifted}
-use Rattle.words.proofs.Bits.{colex-is-order-of-numbers}
 use Rattle.words.proofs.Counted.{count-is-how-many-words, rank-is-how-many-earlier}
-use Rattle.words.proofs.Next.{next-long, next-monotone, next-is-later, nothing-between-word-and-next}
+use Rattle.words.proofs.Next.{next-long, next-monotone, next-rank, next-is-later, nothing-between-word-and-next}
 use Rattle.answers.specs.declared.Index.{Index}
 use Rattle.answers.specs.Says.{Says, refuses, gives, refusedIf, andThen}
 use Rattle.answers.specs.Terms.{indexOf, wordOf}
 use Rattle.answers.proofs.Says.{gives-same, gives-no-refusal, passed, stopped, then-gave}
-use Rattle.answers.proofs.Terms.{word-of-index, index-of-word, word-monotone, word-long}
-use Rattle.packing.specs.Checks.{lastShifted}
-use Rattle.packing.proofs.Checks.{last-shifted-at, last-shifted-none}
+use Rattle.answers.proofs.Terms.{word-of-index, word-monotone, shifted-word}
+use Rattle.packing.specs.Checks.{rises, lastShifted}
+use Rattle.packing.proofs.Checks.{rises-is-monotone, last-shifted-at, last-shifted-none}
 use Rattle.monotone.specs.declared.Walk.{Walk}
-use Rattle.monotone.specs.Rules.{countSays, rankSays, unrankSays, successorSays}
+use Rattle.monotone.specs.Rules.{countSays, packSays, rankSays, unrankOverSays, unrankSays, nextSays, successorSays}
+use Rattle.taking.specs.Taken.{top, Accepted}
+use Rattle.taking.proofs.Accepted.{accepted-is-a-word, taken-accepted, taken-gives}
 use Rattle.monotone.specs.Walks.{walkSays, stepSays}
 use Rattle.monotone.proofs.Rules.{Counted, count-given, count-gives, Unranked, unrank-given, unrank-gives, Ranked, checked-given, checked-gives}
 use Rattle.promises.specs.Listing.{listing, Lists, sumBelow}
-use Rattle.promises.proofs.Walks.{Standing, walk-stands, walk-lists-by-rank}
+use Rattle.promises.proofs.Walks.{pos-of-ne, Standing, walk-stands, walk-lists-by-rank}
 use Rattle.promises.proofs.From.{from, from-long, from-at, in-from, from-in, from-distinct}
-
-pos-of-ne : (a : ℕ) → (a ≡ 0 → ⊥) → 0 < a
-pos-of-ne zero h = absurd (h refl)
-pos-of-ne (suc a) h = zero-lt-suc a
 
 -- ---- the count
 
@@ -98,8 +102,7 @@ rank-is-a-sum-of-binomials F w =
 
 -- ---- unranking
 
--- a word over an alphabet that keeps the width limits passes the checks of a word
-word-ranked : (F : Family) (n k : ℕ) (w : List ℕ) → Word F n k w → k ≤ 64 → shiftedAlphabet F n k ≤ 64 → Ranked F w
+pub word-ranked : (F : Family) (n k : ℕ) (w : List ℕ) → Word F n k w → k ≤ 64 → shiftedAlphabet F n k ≤ 64 → Ranked F w
 word-ranked F n k w h d l = record { short = omega (arith, h .long); monotone = h .monotone; low = go (decLe 1 (length w)) }
   where
     go : Dec (1 ≤ length w) → lastShifted F w ≤ 63
@@ -130,108 +133,122 @@ unrank-returns-a-ranked-word F n r room w e b l h = go (checked-given F w (rankO
 -- ---- the successor
 
 pub record Succeeds (x y : Index) : Type 0 where
+  pub taken : Accepted x
   pub some : 0 < length (wordOf x)
-  pub fits : bitsOf (shifted (x .family) (next (x .family) (wordOf x))) < 2 ^ 64
-  pub is : indexOf (x .family) (next (x .family) (wordOf x)) ≡ y
+  pub over : Below (x .alphabet) (next (x .family) (wordOf x))
+  pub is : indexOf (x .family) (x .alphabet) (next (x .family) (wordOf x)) ≡ y
 
-successor-given : (x y : Index) → successorSays x ≡ gives y → Succeeds x y
-successor-given x y e = go (passed (eqb (length (wordOf x)) 0) 4 rest y e)
-  where
-    up : Index
-    up = indexOf (x .family) (next (x .family) (wordOf x))
-
-    rest : Says Index
-    rest = refusedIf (leb (2 ^ 64) (bitsOf (shifted (x .family) (next (x .family) (wordOf x))))) 4 (gives up)
-
-    go : (eqb (length (wordOf x)) 0 ≡ false) × (rest ≡ gives y) → Succeeds x y
-    go p = on (passed (leb (2 ^ 64) (bitsOf (shifted (x .family) (next (x .family) (wordOf x))))) 4 (gives up) y (p .1))
-      where
-        on : (leb (2 ^ 64) (bitsOf (shifted (x .family) (next (x .family) (wordOf x)))) ≡ false) × (gives up ≡ gives y) → Succeeds x y
-        on q =
-            record {
-              some = pos-of-ne (length (wordOf x)) (eqb-false (length (wordOf x)) 0 (p .0));
-              fits = leb-false (2 ^ 64) (bitsOf (shifted (x .family) (next (x .family) (wordOf x)))) (q .0);
-              is = gives-same up y (q .1);
-            }
+pub successor-given : (x y : Index) → successorSays x ≡ gives y → Succeeds x y
+successor-given x y e =
+    let up : Index = indexOf (x .family) (x .alphabet) (next (x .family) (wordOf x)) in
+    let a = taken-gives x (nextSays x) y e in
+    let p = passed (eqb (length (wordOf x)) 0) 4 (refusedIf (reaches (x .alphabet) (next (x .family) (wordOf x))) 4 (gives up)) y (a .1) in
+    let q = passed (reaches (x .alphabet) (next (x .family) (wordOf x))) 4 (gives up) y (p .1) in
+    record {
+      taken = a .0;
+      some = pos-of-ne (length (wordOf x)) (eqb-false (length (wordOf x)) 0 (p .0));
+      over = reaches-not (x .alphabet) (next (x .family) (wordOf x)) .0 (q .0);
+      is = gives-same up y (q .1);
+    }
 
 next-word : (x y : Index) → Succeeds x y → wordOf y ≡ next (x .family) (wordOf x)
-next-word x y s = ap wordOf (sym (s .is)) ∙ word-of-index (x .family) (next (x .family) (wordOf x)) (next-monotone (x .family) (wordOf x) (word-monotone x))
+next-word x y s =
+    ap wordOf (sym (s .is)) ∙ word-of-index (x .family) (x .alphabet) (next (x .family) (wordOf x)) (next-monotone (x .family) (wordOf x) (word-monotone x))
 
-pub successor-is-later : (x y : Index) → successorSays x ≡ gives y → (y .family ≡ x .family) × ColexLt (wordOf x) (wordOf y)
-successor-is-later x y e = go (successor-given x y e)
-  where
-    go : Succeeds x y → (y .family ≡ x .family) × ColexLt (wordOf x) (wordOf y)
-    go s = (
+pub successor-is-later : (x y : Index) → successorSays x ≡ gives y → (y .family ≡ x .family) × (y .alphabet ≡ x .alphabet) × ColexLt (wordOf x) (wordOf y)
+successor-is-later x y e =
+    let s : Succeeds x y = successor-given x y e in (
       ap (λ (z : Index). z .family) (sym (s .is)),
+      ap (λ (z : Index). z .alphabet) (sym (s .is)),
       subst (ColexLt (wordOf x)) (sym (next-word x y s)) (next-is-later (x .family) (wordOf x) (s .some) (word-monotone x)),
     )
 
-pub nothing-between-index-and-successor : (x y z : Index) → successorSays x ≡ gives y → z .family ≡ x .family → ColexLt (wordOf x) (wordOf z) → ColexLt (wordOf z) (wordOf y) → ⊥
-nothing-between-index-and-successor x y z e f a b = go (successor-given x y e)
-  where
-    go : Succeeds x y → ⊥
-    go s =
-        nothing-between-word-and-next (x .family) (wordOf x) (wordOf z) (s .some) (word-monotone x)
-        (subst (λ (G : Family). Monotone G (wordOf z)) f (word-monotone z)) a (subst (ColexLt (wordOf z)) (next-word x y s) b)
+pub nothing-between-index-and-successor : (x y : Index) (w : List ℕ) → successorSays x ≡ gives y → Monotone (x .family) w → ColexLt (wordOf x) w → ColexLt w (wordOf y) → ⊥
+nothing-between-index-and-successor x y w e m a b =
+    let s : Succeeds x y = successor-given x y e in
+    nothing-between-word-and-next (x .family) (wordOf x) w (s .some) (word-monotone x) m a (subst (ColexLt w) (next-word x y s) b)
 
--- of two indices of one family and degree, the later has the larger bits
-later-is-larger : (x z : Index) → z .family ≡ x .family → (u : List ℕ) → Monotone (x .family) u → ColexLt u (wordOf z) → bitsOf (shifted (x .family) u) < z .bits
-later-is-larger x z f u m c =
-    let s : Monotone (x .family) (wordOf z) = subst (λ (G : Family). Monotone G (wordOf z)) f (word-monotone z) in
-    let b : bitsOf (shifted (x .family) (wordOf z)) ≡ z .bits = ap (λ (G : Family). bitsOf (shifted G (wordOf z))) (sym f) ∙ ap (λ (y : Index). y .bits) (index-of-word z) in
-    subst (λ (j : ℕ). bitsOf (shifted (x .family) u) < j) b
-    (colex-is-order-of-numbers (shifted (x .family) u) (shifted (x .family) (wordOf z)) (shifted-monotone (x .family) u .0 m) (shifted-monotone (x .family) (wordOf z) .0 s)
-    (shifted-long (x .family) u ∙ c .sameLength ∙ sym (shifted-long (x .family) (wordOf z))) .0 (colex-shifted (x .family) u (wordOf z) .0 c))
+-- if a word over n is later than the word of x, then so is the next one over n
+next-over : (F : Family) (n : ℕ) (u w : List ℕ) → Monotone F u → Word F n (length u) w → ColexLt u w → Below n (next F u)
+next-over F n u w m h c =
+    let some : 0 < length u = omega (arith, c .within) in
+    word-by-rank F n (length u) (next F u) (next-long F u) (next-monotone F u m)
+    (omega (arith, next-rank F u some m, rank-rises F u w m (from-colex u w c), rank-below-count F n (length u) w h)) .below
 
--- what is later than x has at least the bits of the next word
-next-at-most : (x z : Index) → z .family ≡ x .family → ColexLt (wordOf x) (wordOf z) → 0 < length (wordOf x)
-    → bitsOf (shifted (x .family) (next (x .family) (wordOf x))) ≤ z .bits
-next-at-most x z f c h = go (compare up (wordOf z) (next-long (x .family) (wordOf x) ∙ c .sameLength))
-  where
-    up : List ℕ
-    up = next (x .family) (wordOf x)
-
-    go : Compared up (wordOf z) → bitsOf (shifted (x .family) up) ≤ z .bits
-    go (less b) = le-of-lt (later-is-larger x z f up (next-monotone (x .family) (wordOf x) (word-monotone x)) (to-colex up (wordOf z) b))
-    go (same e) = le-of-eq (ap (λ (u : List ℕ). bitsOf (shifted (x .family) u)) e ∙ ap (λ (G : Family). bitsOf (shifted G (wordOf z))) (sym f) ∙ ap (λ (y : Index). y .bits) (index-of-word z))
-    go (more b) =
-        absurd
-        (nothing-between-word-and-next (x .family) (wordOf x) (wordOf z) h (word-monotone x) (subst (λ (G : Family). Monotone G (wordOf z)) f (word-monotone z)) c
-        (to-colex (wordOf z) up b))
-
-pub successor-refuses-exactly-at-the-last : (x : Index)
-    → (successorSays x ≡ refuses 4) ↔ ((z : Index) → z .family ≡ x .family → z .bits < 2 ^ 64 → ColexLt (wordOf x) (wordOf z) → ⊥)
-successor-refuses-exactly-at-the-last x = (to, back)
+pub successor-refuses-exactly-at-the-last : (x : Index) → Accepted x
+    → (successorSays x ≡ refuses 4) ↔ ((w : List ℕ) → Word (x .family) (x .alphabet) (length (wordOf x)) w → ColexLt (wordOf x) w → ⊥)
+successor-refuses-exactly-at-the-last x a = (to, back)
   where
     up : Index
-    up = indexOf (x .family) (next (x .family) (wordOf x))
+    up = indexOf (x .family) (x .alphabet) (next (x .family) (wordOf x))
 
-    rest : Says Index
-    rest = refusedIf (leb (2 ^ 64) (up .bits)) 4 (gives up)
+    past : Bool
+    past = reaches (x .alphabet) (next (x .family) (wordOf x))
 
-    to : successorSays x ≡ refuses 4 → (z : Index) → z .family ≡ x .family → z .bits < 2 ^ 64 → ColexLt (wordOf x) (wordOf z) → ⊥
-    to e z f b c = go (stopped (eqb (length (wordOf x)) 0) 4 rest 4 e)
-      where
-        on : 0 < length (wordOf x) → ((leb (2 ^ 64) (up .bits) ≡ true) × (_≡_ {A = ℕ} 4 4)) ⊎ ((leb (2 ^ 64) (up .bits) ≡ false) × (gives up ≡ refuses 4)) → ⊥
-        on h (inl q) = omega (arith, b, leb-true (2 ^ 64) (up .bits) (q .0), next-at-most x z f c h)
-        on h (inr q) = gives-no-refusal up 4 (q .1)
+    on : 0 < length (wordOf x) → (w : List ℕ) → Word (x .family) (x .alphabet) (length (wordOf x)) w → ColexLt (wordOf x) w
+        → ((past ≡ true) × (_≡_ {A = ℕ} 4 4)) ⊎ ((past ≡ false) × (gives up ≡ refuses 4)) → ⊥
+    on h w d c (inl q) =
+        let f : past ≡ false = reaches-not (x .alphabet) (next (x .family) (wordOf x)) .1 (next-over (x .family) (x .alphabet) (wordOf x) w (word-monotone x) d c) in
+        let t : past ≡ true = q .0 in
+        let z : _≡_ {A = ℕ} 0 1 = cc in
+        omega arith
+    on h w d c (inr q) = gives-no-refusal up 4 (q .1)
 
-        go : ((eqb (length (wordOf x)) 0 ≡ true) × (_≡_ {A = ℕ} 4 4)) ⊎ ((eqb (length (wordOf x)) 0 ≡ false) × (rest ≡ refuses 4)) → ⊥
-        go (inl p) = omega (arith, eqb-true (length (wordOf x)) 0 (p .0), c .within)
-        go (inr p) = on (pos-of-ne (length (wordOf x)) (eqb-false (length (wordOf x)) 0 (p .0))) (stopped (leb (2 ^ 64) (up .bits)) 4 (gives up) 4 (p .1))
+    go : (w : List ℕ) → Word (x .family) (x .alphabet) (length (wordOf x)) w → ColexLt (wordOf x) w
+        → ((eqb (length (wordOf x)) 0 ≡ true) × (_≡_ {A = ℕ} 4 4)) ⊎ ((eqb (length (wordOf x)) 0 ≡ false) × (refusedIf past 4 (gives up) ≡ refuses 4)) → ⊥
+    go w d c (inl p) = omega (arith, eqb-true (length (wordOf x)) 0 (p .0), c .within)
+    go w d c (inr p) = on (pos-of-ne (length (wordOf x)) (eqb-false (length (wordOf x)) 0 (p .0))) w d c (stopped past 4 (gives up) 4 (p .1))
 
-    back : ((z : Index) → z .family ≡ x .family → z .bits < 2 ^ 64 → ColexLt (wordOf x) (wordOf z) → ⊥) → successorSays x ≡ refuses 4
-    back none = go (eqb (length (wordOf x)) 0) refl (leb (2 ^ 64) (up .bits)) refl
-      where
-        go : (s : Bool) → eqb (length (wordOf x)) 0 ≡ s → (t : Bool) → leb (2 ^ 64) (up .bits) ≡ t → refusedIf s 4 (refusedIf t 4 (gives up)) ≡ refuses 4
-        go true p t q = refl
-        go false p true q = refl
-        go false p false q =
-            let h : 0 < length (wordOf x) = pos-of-ne (length (wordOf x)) (eqb-false (length (wordOf x)) 0 p) in
-            absurd
-            (none up refl (leb-false (2 ^ 64) (up .bits) q)
-            (subst (ColexLt (wordOf x)) (sym (word-of-index (x .family) (next (x .family) (wordOf x)) (next-monotone (x .family) (wordOf x) (word-monotone x))))
-            (next-is-later (x .family) (wordOf x) h (word-monotone x))))
+    to : successorSays x ≡ refuses 4 → (w : List ℕ) → Word (x .family) (x .alphabet) (length (wordOf x)) w → ColexLt (wordOf x) w → ⊥
+    to e w d c = go w d c (stopped (eqb (length (wordOf x)) 0) 4 (refusedIf past 4 (gives up)) 4 (sym (taken-accepted x (nextSays x) a) ∙ e))
+
+    tests : ((w : List ℕ) → Word (x .family) (x .alphabet) (length (wordOf x)) w → ColexLt (wordOf x) w → ⊥)
+        → (s : Bool) → eqb (length (wordOf x)) 0 ≡ s → (t : Bool) → reaches (x .alphabet) (next (x .family) (wordOf x)) ≡ t → refusedIf s 4 (refusedIf t 4 (gives up)) ≡ refuses 4
+    tests none true p t q = refl
+    tests none false p true q = refl
+    tests none false p false q =
+        absurd
+        (none (next (x .family) (wordOf x))
+        (record { long = next-long (x .family) (wordOf x); monotone = next-monotone (x .family) (wordOf x) (word-monotone x); below = reaches-not (x .alphabet) (next (x .family) (wordOf x)) .0 q })
+        (next-is-later (x .family) (wordOf x) (pos-of-ne (length (wordOf x)) (eqb-false (length (wordOf x)) 0 p)) (word-monotone x)))
+
+    back : ((w : List ℕ) → Word (x .family) (x .alphabet) (length (wordOf x)) w → ColexLt (wordOf x) w → ⊥) → successorSays x ≡ refuses 4
+    back none =
+        taken-accepted x (nextSays x) a ∙ tests none (eqb (length (wordOf x)) 0) refl (reaches (x .alphabet) (next (x .family) (wordOf x))) refl
+
+-- the same as bits (02 §8): k ones at the top of a digits
+pub successor-refuses-exactly-at-the-top-bits : (x : Index) → Accepted x
+    → (successorSays x ≡ refuses 4) ↔ (x .bits ≡ (2 ^ length (wordOf x) - 1) * 2 ^ (top x - length (wordOf x)))
+successor-refuses-exactly-at-the-top-bits x a = (
+  λ e. sym (same (last-has-nothing-after F n k (wordOf x) word .0 (successor-refuses-exactly-at-the-last x a .0 e))) ∙ bits,
+  λ e. successor-refuses-exactly-at-the-last x a .1 (last-has-nothing-after F n k (wordOf x) word .1 (back (e ∙ sym bits))),
+)
+  where
+    F : Family
+    F = x .family
+
+    n : ℕ
+    n = x .alphabet
+
+    k : ℕ
+    k = length (wordOf x)
+
+    word : Word F n k (wordOf x)
+    word = accepted-is-a-word x .0 a .1
+
+    bits : bitsOf (shifted F (last F n k)) ≡ (2 ^ k - 1) * 2 ^ (top x - k)
+    bits = last-bits F n k (choose-enough (shiftedAlphabet F n k) k (omega (arith, rank-below-count F n k (wordOf x) word)))
+
+    own : bitsOf (shifted F (wordOf x)) ≡ x .bits
+    own = ap bitsOf (shifted-word x) ∙ bits-of-set (x .bits)
+
+    same : wordOf x ≡ last F n k → bitsOf (shifted F (last F n k)) ≡ x .bits
+    same e = ap (λ (w : List ℕ). bitsOf (shifted F w)) (sym e) ∙ own
+
+    back : x .bits ≡ bitsOf (shifted F (last F n k)) → wordOf x ≡ last F n k
+    back e =
+        ap (λ (b : ℕ). unshifted F (setBits b)) e
+        ∙ word-of-index F n (last F n k) (last-is-a-word F n k (omega (arith, rank-below-count F n k (wordOf x) word)) .monotone)
 
 -- ---- the walk
 

@@ -1,51 +1,52 @@
 -- A walk goes through the words in the order of their ranks. Assumes nothing.
+--   pos-of-ne    what is not 0 is above 0
 --   Standing F n k c i s    the state s of a walk over c words has given i of them
---   walk-stands, step-ends    the start, and the end
+--   successor-of-unrank, successor-of-the-last    the successor of the word of a rank is that of the next rank, and of the last there is none
+--   walk-stands, step-ends    the start, and the end: after its last word a walk stands nowhere
 --   walk-lists-by-rank    d steps give the words of the ranks below d, up to the count
 use mathlib.Core.Path.{_≡_, refl, sym, ap, ap₂, subst, _∙_}
 use mathlib.Core.Bool.{Bool, true, false}
 use mathlib.Core.List.{List, [], _∷_}
-use Prim.Native.Nat.{ℕ, zero, suc, _+_, _-_, _^_, _≤_, _<_, zero-le}
-use native.Mathlib.Nat.{lt-of-lt-of-le, zero-add, zero-lt-suc}
+use Prim.Native.Nat.{ℕ, zero, suc, _+_, _-_, _≤_, _<_}
+use native.Mathlib.Nat.{zero-add, zero-lt-suc}
 use native.Mathlib.Omega.{arith}
-use borrow.Author.Tests.{eq-eqb, ne-eqb, lt-leb, ltb-true, ltb-false, eqb-true}
-use lib.Dec.{eqb, leb, ltb}
-use lib.Pow.{pow-mono}
+use borrow.Author.Tests.{eq-eqb, ne-eqb, eqb-false}
+use lib.Dec.{eqb}
 use lib.ListN.{length, take}
 use Rattle.pascal.proofs.Choose.{choose-none}
 use Rattle.words.specs.declared.Family.{Family}
 use Rattle.words.specs.Pick.{pick}
-use Rattle.words.specs.Word.{Word, shifted, shiftedAlphabet, count}
+use Rattle.words.specs.Word.{Monotone, Word, shiftedAlphabet, count}
 use Rattle.words.specs.Rank.{rankOf}
 use Rattle.words.specs.Unrank.{unrankOf}
 use Rattle.words.specs.Next.{first, next}
-use Rattle.words.specs.Bits.{bitsOf}
-use Rattle.words.proofs.Rank.{rank-tells-words-apart}
+use Rattle.words.proofs.Rank.{rank-tells-words-apart, rank-below-count}
 use Rattle.words.proofs.Unrank.{unrank-long, unrank-monotone, unrank-is-a-word, rank-of-unrank}
 use Rattle.words.proofs.Next.{next-long, next-monotone, next-rank}
 use Rattle.words.proofs.Ends.{first-is-unrank-zero}
-use Rattle.words.proofs.Shifted.{shifted-monotone, word-shifted}
-use Rattle.words.proofs.Bits.{bits-fit}
+use Rattle.bits.specs.Member.{reaches}
+use Rattle.bits.proofs.Member.{reaches-not}
 use Rattle.answers.specs.declared.Index.{Index}
-use Rattle.answers.specs.Says.{Says, refuses, gives, andThen}
+use Rattle.answers.specs.Says.{Says, refuses, gives, refusedIf, andThen}
 use Rattle.answers.specs.Terms.{indexOf, wordOf}
 use Rattle.answers.proofs.Says.{gives-same}
 use Rattle.answers.proofs.Terms.{word-of-index}
 use Rattle.monotone.specs.declared.Walk.{Walk}
 use Rattle.monotone.specs.declared.Current.{Current}
 use Rattle.monotone.specs.declared.Current.the-variants.{At, Nothing}
-use Rattle.monotone.specs.Rules.{countSays, successorSays}
+use Rattle.monotone.specs.Rules.{countSays, nextSays, successorSays}
+use Rattle.taking.specs.Taken.{Accepted}
+use Rattle.taking.proofs.Accepted.{index-accepted, taken-accepted}
 use Rattle.monotone.specs.Walks.{Moved, walkSays, current, stepFrom, stepSays}
 use Rattle.monotone.proofs.Rules.{Counted, count-given}
 use Rattle.promises.proofs.From.{from}
 use Rattle.promises.specs.Listing.{follow, listing}
 
--- ---- the successor of the word of a rank
+pub pos-of-ne : (a : ℕ) → (a ≡ 0 → ⊥) → 0 < a
+pos-of-ne zero h = absurd (h refl)
+pos-of-ne (suc a) h = zero-lt-suc a
 
--- over an alphabet whose shifted alphabet is 64 at most, a word's bits have room
-word-fits : (F : Family) (n k : ℕ) (w : List ℕ) → Word F n k w → shiftedAlphabet F n k ≤ 64 → bitsOf (shifted F w) < 2 ^ 64
-word-fits F n k w h l =
-    lt-of-lt-of-le (bits-fit (shiftedAlphabet F n k) (shifted F w) (shifted-monotone F w .0 (h .monotone)) (word-shifted F n k w .0 h .below)) (pow-mono l)
+-- ---- the successor of the word of a rank
 
 -- there is a second word only of words that have a symbol
 two-words : (F : Family) (n k i : ℕ) → suc i < count F n k → 0 < k
@@ -60,71 +61,99 @@ next-of-unrank F n k i h =
     (next-rank F (unrankOf F k i) (omega (arith, unrank-long F k i, two-words F n k i h)) m
     ∙ ap suc (rank-of-unrank F n k i (omega arith)) ∙ sym (rank-of-unrank F n k (suc i) h))
 
+-- what taking the word of a rank leaves to be said
+unranked-next : (F : Family) (n k i : ℕ) → shiftedAlphabet F n k ≤ 64 → i < count F n k
+    → successorSays (indexOf F n (unrankOf F k i))
+    ≡ refusedIf (eqb (length (unrankOf F k i)) 0) 4 (refusedIf (reaches n (next F (unrankOf F k i))) 4 (gives (indexOf F n (next F (unrankOf F k i)))))
+unranked-next F n k i l h =
+    let e : wordOf (indexOf F n (unrankOf F k i)) ≡ unrankOf F k i = word-of-index F n (unrankOf F k i) (unrank-monotone F k i) in
+    taken-accepted (indexOf F n (unrankOf F k i)) (nextSays (indexOf F n (unrankOf F k i))) (index-accepted F n k (unrankOf F k i) l (unrank-is-a-word F n k i h))
+    ∙ ap (λ (w : List ℕ). refusedIf (eqb (length w) 0) 4 (refusedIf (reaches n (next F w)) 4 (gives (indexOf F n (next F w))))) e
+
 pub successor-of-unrank : (F : Family) (n k i : ℕ) → shiftedAlphabet F n k ≤ 64 → suc i < count F n k
-    → successorSays (indexOf F (unrankOf F k i)) ≡ gives (indexOf F (unrankOf F k (suc i)))
+    → successorSays (indexOf F n (unrankOf F k i)) ≡ gives (indexOf F n (unrankOf F k (suc i)))
 successor-of-unrank F n k i l h =
-    let e : wordOf (indexOf F (unrankOf F k i)) ≡ unrankOf F k i = word-of-index F (unrankOf F k i) (unrank-monotone F k i) in
     let u : next F (unrankOf F k i) ≡ unrankOf F k (suc i) = next-of-unrank F n k i h in
     let s : eqb (length (unrankOf F k i)) 0 ≡ false = ne-eqb (length (unrankOf F k i)) 0 (λ z. omega (arith, z, unrank-long F k i, two-words F n k i h)) in
-    let b : leb (2 ^ 64) (bitsOf (shifted F (unrankOf F k (suc i)))) ≡ false =
-    lt-leb (2 ^ 64) (bitsOf (shifted F (unrankOf F k (suc i)))) (word-fits F n k (unrankOf F k (suc i)) (unrank-is-a-word F n k (suc i) h) l) in
-    simp (e, u, s, b)
+    let b : reaches n (unrankOf F k (suc i)) ≡ false = reaches-not n (unrankOf F k (suc i)) .1 (unrank-is-a-word F n k (suc i) h .below) in
+    unranked-next F n k i l (omega arith) ∙ simp (u, s, b)
+
+-- the word of the greatest rank has no next one over n
+pub successor-of-the-last : (F : Family) (n k i : ℕ) → shiftedAlphabet F n k ≤ 64 → suc i ≡ count F n k → successorSays (indexOf F n (unrankOf F k i)) ≡ refuses 4
+successor-of-the-last F n k i l h = unranked-next F n k i l (omega arith) ∙ go (eqb (length (unrankOf F k i)) 0) refl (reaches n (next F (unrankOf F k i))) refl
+  where
+    go : (s : Bool) → eqb (length (unrankOf F k i)) 0 ≡ s → (t : Bool) → reaches n (next F (unrankOf F k i)) ≡ t
+        → refusedIf s 4 (refusedIf t 4 (gives (indexOf F n (next F (unrankOf F k i))))) ≡ refuses 4
+    go true p t q = refl
+    go false p true q = refl
+    go false p false q =
+        let m : Monotone F (unrankOf F k i) = unrank-monotone F k i in
+        let some : 0 < length (unrankOf F k i) = pos-of-ne (length (unrankOf F k i)) (eqb-false (length (unrankOf F k i)) 0 p) in
+        let d : Word F n k (next F (unrankOf F k i)) =
+        record { long = next-long F (unrankOf F k i) ∙ unrank-long F k i; monotone = next-monotone F (unrankOf F k i) m; below = reaches-not n (next F (unrankOf F k i)) .0 q } in
+        absurd (omega (arith, rank-below-count F n k (next F (unrankOf F k i)) d, next-rank F (unrankOf F k i) some m, rank-of-unrank F n k i (omega arith)))
 
 -- ---- the state of a walk
 
 pub record Standing (F : Family) (n k c i : ℕ) (s : Walk) : Type 0 where
   pub left : i + s .remaining ≡ c
-  pub at : i < c → s .current ≡ At (indexOf F (unrankOf F k i))
+  pub at : i < c → s .current ≡ At (indexOf F n (unrankOf F k i))
+  pub past : i ≡ c → s .current ≡ Nothing
 
 pub walk-stands : (F : Family) (n k c : ℕ) (s : Walk) → countSays F n k ≡ gives c → walkSays F n k ≡ gives s → Standing F n k c 0 s
 walk-stands F n k c s e w = go (gives-same begin s (sym (ap (λ a. andThen a state) e) ∙ w))
   where
     state : ℕ → Says Walk
-    state c = gives (record { current = pick (eqb c 0) Nothing (At (indexOf F (first F k))); remaining = c })
+    state c = gives (record { current = pick (eqb c 0) Nothing (At (indexOf F n (first F k))); remaining = c })
 
     begin : Walk
-    begin = record { current = pick (eqb c 0) Nothing (At (indexOf F (first F k))); remaining = c }
+    begin = record { current = pick (eqb c 0) Nothing (At (indexOf F n (first F k))); remaining = c }
 
     go : begin ≡ s → Standing F n k c 0 s
     go p =
         record {
           left = zero-add (s .remaining) ∙ sym (ap (λ (t : Walk). t .remaining) p);
           at = λ h. sym (ap (λ (t : Walk). t .current) p)
-              ∙ ap (λ t. pick t Nothing (At (indexOf F (first F k)))) (ne-eqb c 0 (λ z. omega arith))
-              ∙ ap (λ (u : List ℕ). At (indexOf F u)) (sym (first-is-unrank-zero F k));
+              ∙ ap (λ t. pick t Nothing (At (indexOf F n (first F k)))) (ne-eqb c 0 (λ z. omega arith))
+              ∙ ap (λ (u : List ℕ). At (indexOf F n u)) (sym (first-is-unrank-zero F k));
+          past = λ z. sym (ap (λ (t : Walk). t .current) p) ∙ ap (λ t. pick t Nothing (At (indexOf F n (first F k)))) (eq-eqb c 0 (sym z));
         }
 
 -- the state after a step from the word of rank i
-moved : Family → ℕ → ℕ → Walk → Walk
-moved F k i s = record { current = current (successorSays (indexOf F (unrankOf F k i))); remaining = s .remaining - 1 }
+moved : Family → ℕ → ℕ → ℕ → Walk → Walk
+moved F n k i s = record { current = current (successorSays (indexOf F n (unrankOf F k i))); remaining = s .remaining - 1 }
 
 step-moves : (F : Family) (n k c i : ℕ) (s : Walk) → Counted F n k c → Standing F n k c i s → i < c
-    → (stepSays s ≡ gives (record { index = indexOf F (unrankOf F k i); state = moved F k i s })) × Standing F n k c (suc i) (moved F k i s)
+    → (stepSays s ≡ gives (record { index = indexOf F n (unrankOf F k i); state = moved F n k i s })) × Standing F n k c (suc i) (moved F n k i s)
 unfolding moved
 step-moves F n k c i s d p h =
-    let r : eqb (s .remaining) 0 ≡ false = ne-eqb (s .remaining) 0 (λ z. omega (arith, z, p .left)) in (
-      simp (r, p .at h),
+    let r : eqb (s .remaining) 0 ≡ false = ne-eqb (s .remaining) 0 (λ z. omega (arith, z, p .left)) in
+    let x : Index = indexOf F n (unrankOf F k i) in
+    let a : Accepted x = index-accepted F n k (unrankOf F k i) (d .alphabet) (unrank-is-a-word F n k i (omega (arith, h, d .is))) in
+    let g : Says Moved = gives (record { index = x; state = record { current = current (successorSays x); remaining = s .remaining - 1 } }) in (
+      ap (λ z. stepFrom z (s .remaining)) (p .at h) ∙ taken-accepted x (refusedIf (eqb (s .remaining) 0) 4 g) a ∙ ap (λ t. refusedIf t 4 g) r,
       record {
         left = omega (arith, p .left);
         at = λ l. ap current (successor-of-unrank F n k i (d .alphabet) (omega (arith, l, d .is)));
+        past = λ z. ap current (successor-of-the-last F n k i (d .alphabet) (z ∙ d .is));
       },
     )
 
-pub step-ends : (s : Walk) → s .remaining ≡ 0 → stepSays s ≡ refuses 4
-step-ends s z = simp (eq-eqb (s .remaining) 0 z)
+pub step-ends : (F : Family) (n k c i : ℕ) (s : Walk) → Standing F n k c i s → s .remaining ≡ 0 → stepSays s ≡ refuses 4
+step-ends F n k c i s p z = ap (λ t. stepFrom t (s .remaining)) (p .past (omega (arith, p .left)))
 
 pub walk-lists-by-rank : (F : Family) (n k c d i : ℕ) (s : Walk) → Counted F n k c → Standing F n k c i s
     → listing d s ≡ take d (from (unrankOf F k) i (s .remaining))
 unfolding listing moved
 walk-lists-by-rank F n k c zero i s a p = refl
-walk-lists-by-rank F n k c (suc d) i s a p = go (s .remaining) refl (λ h. walk-lists-by-rank F n k c d (suc i) (moved F k i s) a (step-moves F n k c i s a p h .1))
+walk-lists-by-rank F n k c (suc d) i s a p = go (s .remaining) refl (λ h. walk-lists-by-rank F n k c d (suc i) (moved F n k i s) a (step-moves F n k c i s a p h .1))
   where
-    go : (r : ℕ) → s .remaining ≡ r → (i < c → listing d (moved F k i s) ≡ take d (from (unrankOf F k) (suc i) (moved F k i s .remaining)))
+    go : (r : ℕ) → s .remaining ≡ r → (i < c → listing d (moved F n k i s) ≡ take d (from (unrankOf F k) (suc i) (moved F n k i s .remaining)))
         → follow (listing d) (stepSays s) ≡ take (suc d) (from (unrankOf F k) i r)
-    go zero e ih = ap (follow (listing d)) (step-ends s e)
+    go zero e ih = ap (follow (listing d)) (step-ends F n k c i s p e)
     go (suc r) e ih =
         let h : i < c = omega (arith, e, p .left) in
         let f : s .remaining - 1 ≡ r = omega arith in
         ap (follow (listing d)) (step-moves F n k c i s a p h .0)
-        ∙ ap₂ (λ (u : List ℕ) (l : List (List ℕ)). u ∷ l) (word-of-index F (unrankOf F k i) (unrank-monotone F k i))
+        ∙ ap₂ (λ (u : List ℕ) (l : List (List ℕ)). u ∷ l) (word-of-index F n (unrankOf F k i) (unrank-monotone F k i))
         (ih h ∙ ap (λ (m : ℕ). take d (from (unrankOf F k) (suc i) m)) f)

@@ -1,7 +1,8 @@
 -- The numbers of document 01 that were checked by hand ("Numbers checked by hand"), as one list of cases under one claim. Assumes nothing.
 --   Case    the case s is a: what a call's definition says of its arguments, and what the document says
 --   Holds c, AllHold cs    the two are equal; they are so in every case of the list
---   bits F a, setOf w    the index of family F whose bits are a, and the Forbidden index of a set of symbols
+--   over F    the alphabet that the index cases are read over (02 §8): 64 for Forbidden, 3 for Allowed
+--   bits F a, setOf w, term F w    the index of family F whose bits are a, the Forbidden index of a set of symbols, and that of a word
 --   signed s x, removed s a x    a sign and an index; a sign, a symbol and an index
 --   digits n k r, taken a x    the digit word of radix n, degree k and rank r; a symbol and a digit word
 --   cases    the twelve points of the document, line by line
@@ -42,11 +43,18 @@ pub data AllHold : List Case → Type 1 where
 
 -- ---- values of several parts
 
+abbrev pub over : Family → ℕ
+over Forbidden = 64
+over Allowed = 3
+
 abbrev pub bits : Family → ℕ → Index
-bits F a = record { family = F; bits = a }
+bits F a = record { family = F; alphabet = over F; bits = a }
+
+abbrev pub term : Family → List ℕ → Index
+term F w = indexOf F (over F) w
 
 abbrev pub setOf : List ℕ → Index
-setOf w = indexOf Forbidden w
+setOf w = term Forbidden w
 
 abbrev pub signed : Sign → Index → Term
 signed s x = record { sign = s; index = x }
@@ -76,7 +84,7 @@ cases =
     ∷ rankSays Allowed (1 ∷ 1 ∷ []) is gives 2
     -- 4. Allowed, k = 2, r = 3: n = 3 gives (0,2); n = 2 gives refusal 3
     ∷ unrankSays Allowed 3 2 3 2 is gives (0 ∷ 2 ∷ [])
-    ∷ unrankOverSays Allowed 3 2 3 is gives (indexOf Allowed (0 ∷ 2 ∷ []))
+    ∷ unrankOverSays Allowed 3 2 3 is gives (term Allowed (0 ∷ 2 ∷ []))
     ∷ unrankSays Allowed 2 2 3 2 is refuses 3
     ∷ unrankOverSays Allowed 2 2 3 is refuses 3
     -- 5. Forbidden: successor of bits 3 is 5; of {62} is {63}; of {63} and 0, refusal 4
@@ -85,13 +93,13 @@ cases =
     ∷ successorSays (setOf (63 ∷ [])) is refuses 4
     ∷ successorSays (bits Forbidden 0) is refuses 4
     -- 6. merge Forbidden (1),(0): minus, (0,1); Allowed (0,2),(2): plus, bits 25
-    ∷ mergeSays (indexOf Forbidden (1 ∷ [])) (indexOf Forbidden (0 ∷ [])) is gives (signed Minus (indexOf Forbidden (0 ∷ 1 ∷ [])))
-    ∷ mergeSays (indexOf Allowed (0 ∷ 2 ∷ [])) (indexOf Allowed (2 ∷ [])) is gives (signed Plus (bits Allowed 25))
+    ∷ mergeSays (setOf (1 ∷ [])) (setOf (0 ∷ [])) is gives (signed Minus (setOf (0 ∷ 1 ∷ [])))
+    ∷ mergeSays (term Allowed (0 ∷ 2 ∷ [])) (term Allowed (2 ∷ [])) is gives (signed Plus (bits Allowed 25))
     -- 7. delete position 1 of Allowed bits 22: plus, symbol 1, bits 10; position 2 of Forbidden {0,2,63}: plus, 63, bits 5
     ∷ deleteSays (bits Allowed 22) 1 is gives (removed Plus 1 (bits Allowed 10))
     ∷ deleteSays (setOf (0 ∷ 2 ∷ 63 ∷ [])) 2 is gives (removed Plus 63 (bits Forbidden 5))
     -- 8. complement of {0,2} in 4: minus, {1,3}
-    ∷ complementSays (setOf (0 ∷ 2 ∷ [])) 4 is gives (signed Minus (setOf (1 ∷ 3 ∷ [])))
+    ∷ complementSays (setOf (0 ∷ 2 ∷ [])) 4 is gives (signed Minus (indexOf Forbidden 4 (1 ∷ 3 ∷ [])))
     -- 9. permutation ranks: (2,1,0) 0; (0,2,1) 3; (0,1,2) 5; empty 0
     ∷ permutation.rankSays (recordOf (2 ∷ 1 ∷ 0 ∷ [])) is gives 0
     ∷ permutation.rankSays (recordOf (0 ∷ 2 ∷ 1 ∷ [])) is gives 3
