@@ -16,6 +16,9 @@ LIMIT = 2**64
 T = LIMIT - 1
 CUT = 2**32
 
+INDEX = "rankof degree unpack next symbol delete complement stabilizer merge"
+WORDS = "pack canonical"
+
 
 class Call:
     def __init__(self, request, ours, theirs):
@@ -29,6 +32,12 @@ class Call:
         cut = numbers.index("/") if "/" in numbers else len(numbers)
         self.a = [int(w) for w in numbers[:cut]]
         self.b = [int(w) for w in numbers[cut + 1:]]
+        # The alphabets of indices, and of a word that is given with one, which the Rust does not know, are kept apart.
+        self.alphabets = []
+        if self.verb == "merge":
+            self.alphabets, self.a = self.a[::2], self.a[1::2]
+        elif self.verb in INDEX.split() + WORDS.split():
+            self.alphabets, self.a = self.a[:1], self.a[1:]
         self.refused = int(ours.split(" ")[1]) if ours.startswith("refused ") else None
         self.theirs = theirs
         self.outcome = theirs if theirs == "none" or theirs.startswith(("panic ", "not run ")) else "answer"
@@ -94,11 +103,91 @@ def inversions(p):
     return sum(x > y for j, y in enumerate(p) for x in p[:j])
 
 
+def symbols_of(family, bits):
+    return [s - (i if family == "allowed" else 0) for i, s in enumerate(s for s in range(64) if bits >> s & 1)]
+
+
+def bits_of(family, word):
+    return sum(1 << s + (i if family == "allowed" else 0) for i, s in enumerate(word))
+
+
+def parity(family, word):
+    return "-" if family == "forbidden" and inversions(word) % 2 else "+"
+
+
 def exponent_word(entries):
     return [s for s, e in enumerate(entries) for _ in range(e)]
 
 
-# ---- what the Rust answers where it has no limit, or checks nothing
+# ---- what the Rust answers where it has no limit, checks nothing, or knows no alphabet
+
+def records(c):
+    return list(zip(c.families, c.alphabets, c.a))
+
+
+def accepted(c):
+    return all(shifted(f, n, bits.bit_count()) <= 64 and all(s < n for s in symbols_of(f, bits)) for f, n, bits in records(c))
+
+
+def next_set(bits):
+    """The next number with as many ones, by its rank; none after the last below 2^64."""
+    k, r, left = bits.bit_count(), bits_rank(bits) + 1, 0
+    if r >= comb(64, k):
+        return None
+    for i in range(k, 0, -1):
+        s = max(s for s in range(64) if comb(s, i) <= r)
+        r, left = r - comb(s, i), left | 1 << s
+    return left
+
+
+def product_answer(family, n, word):
+    """A word in any order as a signed term, or none where the Rust has no value for it."""
+    if family == "forbidden" and len(set(word)) < len(word) or any(s + i > 63 for i, s in enumerate(sorted(word)) if family == "allowed"):
+        return None
+    return [parity(family, word), n, bits_of(family, sorted(word))]
+
+
+def bare_answer(c):
+    """What the Rust answers to a call on indices, of which it knows the family and the bits; none where it stops."""
+    f, x, n = c.families[0], c.a[0], c.alphabets[0]
+    word = symbols_of(f, x)
+    if c.verb == "merge":
+        other = symbols_of(c.families[1], c.a[1])
+        return product_answer(f, max(c.alphabets), word + other) if f == c.families[1] else None
+    if c.verb == "complement":
+        rest = [s for s in range(min(c.a[1], 64)) if s not in word]
+        return [parity(f, word + rest), c.a[1], bits_of(f, rest)] if f == "forbidden" and c.a[1] <= 64 else None
+    if c.verb == "next":
+        return None if next_set(x) is None else [n, next_set(x)]
+    if c.verb in ("symbol", "delete"):
+        p = c.a[1]
+        if p >= len(word):
+            return None
+        left = word[:p] + word[p + 1:]
+        return [word[p]] if c.verb == "symbol" else [parity(f, [word[p]] + left), word[p], n, bits_of(f, left)]
+    if c.verb == "stabilizer":
+        orders = prod(factorial(word.count(s)) for s in set(word))
+        return [orders] if orders < LIMIT else None
+    return {"rankof": [bits_rank(x)], "degree": [len(word)], "unpack": word}[c.verb]
+
+
+def bare(c):
+    """Does the Rust do what it does for the bits?"""
+    given = bare_answer(c)
+    return c.outcome != "answer" if given is None else c.gives(*given)
+
+
+def word_answer(c):
+    f, n = c.families[0], c.alphabets[0]
+    if c.verb == "pack":
+        return [n, bits_of(f, c.a)]
+    return product_answer(f, n, c.a)
+
+
+def over_wide(c):
+    """Is the alphabet that a word is given with too wide?"""
+    return len(c.a) <= 64 < shifted(c.families[0], c.alphabets[0], len(c.a))
+
 
 def digit_answer(c):
     if c.verb == "digits":
@@ -234,7 +323,7 @@ def exact_count(c):
 def unranked(c):
     """Has what the Rust answers the rank that was asked for?"""
     if c.verb == "unrankover":
-        return bits_rank(int(c.theirs)) == c.a[2]
+        return bits_rank(int(c.theirs.split()[1])) == c.a[2]
     if c.verb == "expunrank":
         given = [int(w) for w in c.theirs.split()]
         return len(given) == c.a[0] and sum(given) == c.a[1] and word_rank("allowed", exponent_word(given)) == c.a[2]
@@ -243,8 +332,8 @@ def unranked(c):
 
 
 def walked(c):
-    k, s = c.a[1], c.a[2]
-    return int(c.theirs).bit_count() == k and bits_rank(int(c.theirs)) == s - 1
+    k, s, bits = c.a[1], c.a[2], int(c.theirs.split()[1])
+    return bits.bit_count() == k and bits_rank(bits) == s - 1
 
 
 def walk_ended(c):
@@ -267,12 +356,22 @@ def any_input(c):
 
 # entry, verbs, refusals (None: we answer), outcomes of the Rust, test
 RULES = [
-    ("D1", "unrankany", [3], "answer", lambda c: c.a[0] == 0 < c.a[1] and c.gives(0)),
+    ("D24", INDEX, [1, 7], "answer", lambda c: not accepted(c) and bare(c)),
+    ("D24", INDEX, [1, 7], "none", lambda c: not accepted(c) and bare(c)),
+    ("D24", INDEX, [1, 7], "panic assertion", lambda c: not accepted(c) and bare(c)),
+    ("D24", INDEX, [1, 7], "panic overflow", lambda c: not accepted(c) and bare(c) and stated(c) >= LIMIT),
+    ("D25", WORDS, [1], "answer", lambda c: over_wide(c) and c.gives(*word_answer(c))),
+    ("D25", "canonical", [1], "none", lambda c: over_wide(c) and word_answer(c) is None),
+    ("D25", WORDS, [7], "answer", lambda c: max(c.a) >= c.alphabets[0] and c.gives(*word_answer(c))),
+    ("D26", "next", [4], "answer", lambda c: accepted(c) and next_set(c.a[0]) and c.gives(*bare_answer(c))),
+    ("D27", "merge", [1], "answer",
+     lambda c: accepted(c) and shifted(c.families[0], max(c.alphabets), sum(x.bit_count() for x in c.a)) > 64 and bare(c)),
+    ("D1", "unrankany", [3], "answer", lambda c: c.a[0] == 0 < c.a[1] and c.gives(64, 0)),
     ("D2", "linearize", [9], "answer", lambda c: past(c.a) and c.gives(linear(c.a, c.b))),
     ("D4", "digitconcat", [9], "answer", lambda c: not any(map(too_many, digit_words(c))) and c.gives(*digit_answer(c))),
     ("D3", DIGITS, [9], "answer", lambda c: any(map(too_many, digit_words(c))) and c.gives(*digit_answer(c))),
     ("D5", "delinearize", [9], "answer", lambda c: past(c.b) and c.gives(*taken_apart(c.a[0], c.b))),
-    ("D6", "complement", [7], "answer", lambda c: c.theirs[2:] == str(~c.a[0] & (1 << c.a[1]) - 1)),
+    ("D6", "complement", [7], "answer", lambda c: accepted(c) and bare(c)),
     ("D7", "linearize", [7], "answer", lambda c: any(d >= r for r, d in zip(c.a, c.b)) and c.gives(linear(c.a, c.b))),
     ("D8", "delinearize", [3], "answer", lambda c: c.a[0] >= prod(c.b) and c.gives(*taken_apart(c.a[0], c.b))),
     ("D9", DIGITS, [3], "answer", lambda c: any(map(no_such, digit_words(c))) and c.gives(*digit_answer(c))),

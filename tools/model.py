@@ -1,5 +1,5 @@
 #!/usr/bin/env python3
-"""An independent model of documents 01 and 02, written from the documents alone. It answers what the programs answer:
+"""An independent model of document 01 as document 02 amends it, written from the documents alone. It answers what the programs answer:
 
     model.py terms < crates/terms_cases/stdin    what 01's program writes for each line of the input
     model.py ask < crates/ask/stdin              the answer of `ask` to each line of the input
@@ -67,9 +67,17 @@ def word_of(family, bits):
     return [s - shift(family, i) for i, s in enumerate(set_of(bits))]
 
 
+# ---- indices: a family, an alphabet n and bits
+
+def taken(*indices):
+    """Refuses unless each record holds a word over the alphabet that it names, of a shifted alphabet that fits."""
+    refuse_if(any(shifted_alphabet(f, n, len(set_of(bits))) > 64 for f, n, bits in indices), TOO_WIDE)
+    refuse_if(any(s >= n for f, n, bits in indices for s in word_of(f, bits)), OUTSIDE)
+
+
 def unrank_over(family, n, k, r):
     refuse_if(r >= count(family, n, k), NO_SUCH_RANK)
-    return bits_of(set_of_rank(k, r))
+    return [n, bits_of(set_of_rank(k, r))]
 
 
 def unrank_any(family, k, r):
@@ -77,7 +85,16 @@ def unrank_any(family, k, r):
     return unrank_over(family, 64 if family == "forbidden" or k == 0 else 65 - k, k, r)
 
 
-def pack(family, word):
+def unrank(room, family, n, k, r):
+    return lend(room, word_of(family, unrank_over(family, n, k, r)[1]))
+
+
+def fits(family, n, k):
+    """The first check of a word that is given with an alphabet."""
+    refuse_if(k > 64 or shifted_alphabet(family, n, k) > 64, TOO_WIDE)
+
+
+def packed(family, word):
     refuse_if(len(word) > 64, TOO_WIDE)
     for p in range(1, len(word)):
         refuse_if(word[p] < word[p - 1] or family == "forbidden" and word[p] == word[p - 1], NOT_MONOTONE, p)
@@ -86,31 +103,59 @@ def pack(family, word):
     return bits_of(shifted)
 
 
-def rank_of(family, bits):
-    return rank_of_set(set_of(bits))
+def pack(family, n, word):
+    fits(family, n, len(word))
+    bits = packed(family, word)
+    refuse_if(any(s >= n for s in word), OUTSIDE)
+    return [n, bits]
 
 
-def unpack(family, bits, room):
-    word = word_of(family, bits)
-    refuse_if(len(word) > room, SHAPE)
-    return word
+def rank(family, word):
+    return rank_of_set(set_of(packed(family, word)))
 
 
-def successor(family, bits):
-    k, r = len(set_of(bits)), rank_of(family, bits) + 1
-    refuse_if(r >= comb(64, k), LAST)
-    return bits_of(set_of_rank(k, r))
+def rank_of(x):
+    taken(x)
+    return rank_of_set(set_of(x[2]))
 
 
-def symbol(family, bits, p):
-    word = word_of(family, bits)
+def degree(x):
+    taken(x)
+    return len(set_of(x[2]))
+
+
+def unpack(room, x):
+    taken(x)
+    return lend(room, word_of(x[0], x[2]))
+
+
+def successor(x):
+    family, n, bits = x
+    k, r = degree(x), rank_of(x) + 1
+    refuse_if(r >= count(family, n, k), LAST)
+    return [n, bits_of(set_of_rank(k, r))]
+
+
+def symbol(x, p):
+    taken(x)
+    word = word_of(x[0], x[2])
     refuse_if(p >= len(word), OUTSIDE)
     return word[p]
 
 
 def walk(family, n, k, s):
     refuse_if(s > count(family, n, k), LAST)
-    return bits_of(set_of_rank(k, s - 1))
+    return unrank_over(family, n, k, s - 1)
+
+
+def step(x, remaining):
+    taken(x)
+    refuse_if(remaining == 0, LAST)
+    try:
+        after = ["here"] + successor(x)
+    except Refused:
+        after = ["nowhere"]
+    return [*x[1:], *after, remaining - 1]
 
 
 # ---- signs: a word with the sign of its inversions
@@ -121,34 +166,41 @@ def sign_of(word):
 
 
 def sorted_term(family, word):
+    """The sign of a word in any order, and the word sorted, unless a symbol stands twice where none may."""
     refuse_if(family == "forbidden" and len(set(word)) < len(word), REPEATED)
-    return [sign_of(word) if family == "forbidden" else "+", pack(family, sorted(word))]
+    return sign_of(word) if family == "forbidden" else "+", sorted(word)
 
 
-def canonical(family, word):
-    refuse_if(len(word) > 64, TOO_WIDE)
-    return sorted_term(family, word)
+def canonical(family, n, word):
+    fits(family, n, len(word))
+    sign, word = sorted_term(family, word)
+    return [sign, *pack(family, n, word)]
 
 
-def merge(family, x, other, y):
-    refuse_if(family != other, FAMILY_DIFFERS)
-    return sorted_term(family, word_of(family, x) + word_of(other, y))
+def merge(x, y):
+    taken(x, y)
+    refuse_if(x[0] != y[0], FAMILY_DIFFERS)
+    family, n = x[0], max(x[1], y[1])
+    sign, word = sorted_term(family, word_of(family, x[2]) + word_of(family, y[2]))
+    refuse_if(shifted_alphabet(family, n, len(word)) > 64, TOO_WIDE)
+    return [sign, *pack(family, n, word)]
 
 
-def delete(family, bits, p):
-    word = word_of(family, bits)
-    refuse_if(p >= len(word), OUTSIDE)
+def delete(x, p):
+    family, n, bits = x
+    deleted, word = symbol(x, p), word_of(family, bits)
     left = word[:p] + word[p + 1:]
-    return [sign_of([word[p]] + left) if family == "forbidden" else "+", word[p], pack(family, left)]
+    return [sign_of([deleted] + left) if family == "forbidden" else "+", deleted, *pack(family, n, left)]
 
 
-def complement(family, bits, n):
-    refuse_if(family == "allowed", FAMILY_DIFFERS)
+def complement(x, n):
+    taken(x)
+    refuse_if(x[0] == "allowed", FAMILY_DIFFERS)
     refuse_if(n > 64, TOO_WIDE)
-    word = set_of(bits)
+    word = set_of(x[2])
     refuse_if(any(s >= n for s in word), OUTSIDE)
     rest = [s for s in range(n) if s not in word]
-    return [sign_of(word + rest), bits_of(rest)]
+    return [sign_of(word + rest), n, bits_of(rest)]
 
 
 def fitting(n):
@@ -156,8 +208,9 @@ def fitting(n):
     return n
 
 
-def stabilizer(family, bits):
-    word = word_of(family, bits)
+def stabilizer(x):
+    taken(x)
+    word = word_of(x[0], x[2])
     return fitting(prod(factorial(word.count(s)) for s in set(word)))
 
 
@@ -340,7 +393,7 @@ def exp_from(room, n, word):
 
 def exp_unrank(room, n, k, r):
     width(n, k)
-    return exp_from(room, n, word_of("allowed", unrank_over("allowed", n, k, r)))
+    return exp_from(room, n, word_of("allowed", unrank_over("allowed", n, k, r)[1]))
 
 
 def exp_add(room, x, y):
@@ -356,21 +409,23 @@ def exp_add(room, x, y):
 REQUESTS = {
     "count": ("F n n", lambda room, f, n, k: count(f, n, k)),
     "walk": ("F n n s", lambda room, f, n, k, s: walk(f, n, k, s)),
-    "unrank": ("F n n n", lambda room, f, n, k, r: unpack(f, unrank_over(f, n, k, r), room)),
+    "unrank": ("F n n n", lambda room, f, n, k, r: unrank(room, f, n, k, r)),
     "unrankover": ("F n n n", lambda room, f, n, k, r: unrank_over(f, n, k, r)),
     "unrankany": ("F n n", lambda room, f, k, r: unrank_any(f, k, r)),
-    "rank": ("F *", lambda room, f, w: rank_of(f, pack(f, w))),
-    "rankof": ("F n", lambda room, f, x: rank_of(f, x)),
-    "pack": ("F *", lambda room, f, w: pack(f, w)),
-    "unpack": ("F n", lambda room, f, x: unpack(f, x, room)),
-    "next": ("F n", lambda room, f, x: successor(f, x)),
-    "symbol": ("F n n", lambda room, f, x, p: symbol(f, x, p)),
-    "degree": ("F n", lambda room, f, x: len(set_of(x))),
-    "canonical": ("F *", lambda room, f, w: canonical(f, w)),
-    "merge": ("F n F n", lambda room, f, x, g, y: merge(f, x, g, y)),
-    "delete": ("F n n", lambda room, f, x, p: delete(f, x, p)),
-    "complement": ("F n n", lambda room, f, x, n: complement(f, x, n)),
-    "stabilizer": ("F n", lambda room, f, x: stabilizer(f, x)),
+    "rank": ("F *", lambda room, f, w: rank(f, w)),
+    "rankof": ("F n n", lambda room, *x: rank_of(x)),
+    "pack": ("F n *", lambda room, f, n, w: pack(f, n, w)),
+    "unpack": ("F n n", lambda room, *x: unpack(room, x)),
+    "next": ("F n n", lambda room, *x: successor(x)),
+    "step here": ("F n n n", lambda room, *x: step(x[:3], x[3])),
+    "step nowhere": ("F n", lambda room, f, remaining: refuse_if(True, LAST)),
+    "symbol": ("F n n n", lambda room, *x: symbol(x[:3], x[3])),
+    "degree": ("F n n", lambda room, *x: degree(x)),
+    "canonical": ("F n *", lambda room, f, n, w: canonical(f, n, w)),
+    "merge": ("F n n F n n", lambda room, *x: merge(x[:3], x[3:])),
+    "delete": ("F n n n", lambda room, *x: delete(x[:3], x[3])),
+    "complement": ("F n n n", lambda room, *x: complement(x[:3], x[3])),
+    "stabilizer": ("F n n", lambda room, *x: stabilizer(x)),
     "insert": ("n n", lambda room, x, s: insert(x, s)),
     "contains": ("n n", lambda room, x, s: "yes" if s in set_of(x) else "no"),
     "position": ("n n", lambda room, x, s: position(x, s)),
@@ -395,7 +450,7 @@ REQUESTS = {
     "digitstabilizer": ("n n n", lambda room, *x: digit_stabilizer(x)),
     "digitconcat": ("n n n n n n", lambda room, *x: digit_concat(x[:3], x[3:])),
     "digitdelete": ("n n n n", lambda room, *x: digit_delete(x[:3], x[3])),
-    "exprank": ("*", lambda room, e: rank_of("allowed", pack("allowed", exp_word(e)))),
+    "exprank": ("*", lambda room, e: rank("allowed", exp_word(e))),
     "expword": ("*", lambda room, e: lend(room, exp_word(e))),
     "expfrom": ("n / *", lambda room, n, w: exp_from(room, n, w)),
     "expunrank": ("n n n", lambda room, n, k, r: exp_unrank(room, n, k, r)),
@@ -441,10 +496,11 @@ def asked(line):
     words, room = line.split(" "), MAX_LIST
     if words[0] == "room" and len(words) > 1:
         room, words = min(number(words[1]), MAX_LIST), words[2:]
-    if not words or words[0] not in REQUESTS:
+    verb = 2 if words[:1] == ["step"] else 1
+    if " ".join(words[:verb]) not in REQUESTS:
         raise Bad
-    pattern, answer = REQUESTS[words[0]]
-    value = answer(room, *arguments(pattern, words[1:]))
+    pattern, answer = REQUESTS[" ".join(words[:verb])]
+    value = answer(room, *arguments(pattern, words[verb:]))
     return " ".join(map(str, value)) if isinstance(value, list) else str(value)
 
 
@@ -472,22 +528,33 @@ def terms(line):
         return f"refused {e}"
     lines = [f"{family} {n} {k} {c}"]
     if c <= 4096:
-        lines += [" ".join([f"{r}:"] + list(map(str, word_of(family, unrank_over(family, n, k, r))))) for r in range(c)]
+        lines += [" ".join([f"{r}:"] + list(map(str, word_of(family, unrank_over(family, n, k, r)[1])))) for r in range(c)]
     return "\n".join(lines)
 
 
 # ---- the definitions themselves, where the words can be listed
 
+def refusal(call, *given):
+    """The number of a refusal, or None."""
+    try:
+        call(*given)
+    except Refused as e:
+        return e.args[0]
+
+
 def test():
+    for family, n, bits in itertools.product(("forbidden", "allowed"), range(6), range(256)):
+        word = word_of(family, bits)
+        assert (refusal(taken, (family, n, bits)) == OUTSIDE) == (max(word, default=-1) >= n)
     for family, n, k in itertools.product(("forbidden", "allowed"), range(6), range(6)):
         choose = itertools.combinations if family == "forbidden" else itertools.combinations_with_replacement
         colex = sorted(choose(range(n), k), key=lambda w: w[::-1])
         assert count(family, n, k) == len(colex)
         for r, word in enumerate(map(list, colex)):
-            bits = pack(family, word)
-            assert word_of(family, bits) == word and rank_of(family, bits) == r and unrank_over(family, n, k, r) == bits
-            if r + 1 < len(colex):
-                assert successor(family, bits) == pack(family, list(colex[r + 1]))
+            index = pack(family, n, word)
+            x = (family, *index)
+            assert unpack(k, x) == word and rank_of(x) == rank(family, word) == r and unrank_over(family, n, k, r) == index
+            assert refusal(successor, x) == LAST if r + 1 == len(colex) else successor(x) == pack(family, n, list(colex[r + 1]))
             if family == "allowed":
                 entries = exp_unrank(n, n, k, r)
                 assert exp_word(entries) == word and exp_from(n, n, word[::-1]) == entries

@@ -1,7 +1,7 @@
 // Every verb in turn, on inputs drawn around its limits: `some` puts n of them.
 
 use crate::random::Random;
-use crate::requests::{Requests, count, list, two_lists};
+use crate::requests::{Requests, count, least, list, two_lists, widest};
 
 const LENDING: [&str; 9] = ["unrank", "unpack", "strides", "delinearize", "digitsymbols", "expword", "expfrom", "expunrank", "expadd"];
 
@@ -75,18 +75,25 @@ fn of_terms(g: &mut Random, verb: &str) -> String {
 fn of_word(g: &mut Random, verb: &str) -> String {
     let f = g.family();
     let w = some_word(g, f, verb == "canonical");
-    format!("{verb} {f}{}", list(&w))
+    if verb == "rank" {
+        return format!("rank {f}{}", list(&w));
+    }
+    let n = alphabet(g, w.iter().max().map_or(0, |s| s.saturating_add(1)), widest(f, w.len() as u64));
+    format!("{verb} {f} {n}{}", list(&w))
 }
 
 fn of_index(g: &mut Random, verb: &str) -> String {
     let f = g.family();
     match verb {
-        "rankof" | "unpack" | "next" | "stabilizer" | "degree" => format!("{verb} {f} {}", g.bits()),
+        "rankof" | "unpack" | "next" | "stabilizer" | "degree" => {
+            let x = g.bits();
+            format!("{verb} {}", index(g, f, x))
+        }
         "merge" => merge(g, f),
         "delete" | "symbol" => {
             let x = g.bits();
             let p = if g.one_in(20) { g.number() } else { g.below(x.count_ones() as u64 + 1) };
-            format!("{verb} {f} {x} {p}")
+            format!("{verb} {} {p}", index(g, f, x))
         }
         "complement" => {
             let x = g.bits();
@@ -98,7 +105,7 @@ fn of_index(g: &mut Random, verb: &str) -> String {
                 _ => g.between(above, 66),
             };
             let f = if g.one_in(8) { f } else { "forbidden" };
-            format!("complement {f} {x} {n}")
+            format!("complement {} {n}", index(g, f, x))
         }
         _ => unreachable!(),
     }
@@ -288,7 +295,28 @@ fn merge(g: &mut Random, f: &str) -> String {
         allowed_pair(g)
     };
     let other = if g.one_in(40) { g.family() } else { f };
-    format!("merge {f} {x} {other} {y}")
+    let together = (x.count_ones() + y.count_ones()) as u64;
+    let n = alphabet(g, least(f, x), widest(f, together));
+    let m = alphabet(g, least(other, y), widest(other, together));
+    format!("merge {f} {n} {x} {other} {m} {y}")
+}
+
+// An index over an alphabet that is mostly the widest.
+fn index(g: &mut Random, f: &str, x: u64) -> String {
+    let n = alphabet(g, least(f, x), widest(f, x.count_ones() as u64));
+    format!("{f} {n} {x}")
+}
+
+// An alphabet from the lowest that a word has to the widest that it may have, at either end, or just past it.
+fn alphabet(g: &mut Random, low: u64, high: u64) -> u64 {
+    match g.below(12) {
+        0 => low.saturating_sub(1),
+        1 | 2 => low,
+        3 => high + 1,
+        4 => g.number(),
+        5 | 6 if low <= high => g.between(low, high),
+        _ => high,
+    }
 }
 
 // Two Allowed words whose merge ends at most one past bit 63.

@@ -4,7 +4,9 @@
 //   outcome      the outcome of one request: the words are taken apart, the original is called, the answer is printed
 //   not_run      the requests on which the original does not return, by the entry of docs/DIFFERENCES.md that says why
 //
-// An output that is lent has no counterpart there, so `room R` is read and changes nothing.
+// An output that is lent has no counterpart there, so `room R` is read and changes nothing. Nor has the alphabet of an index: the original is
+// asked about the bits alone, and the alphabet of its answer is put in front by the rule for it (docs/RULES.md). So a walk that was made up,
+// the verb `step`, is not asked.
 
 use multiindex::{Combination, Composition, MonoIndex, Permutation, Radix, Repetition, Sign, Word, binomial};
 use std::any::Any;
@@ -65,8 +67,16 @@ impl Request {
     fn at(&self, i: usize) -> usize {
         self.lists[0][i]
     }
+    // The i-th index: its bits, and its alphabet, which the original does not know.
     fn index(&self, i: usize) -> MonoIndex {
-        index_of(self.families[i], self.at(i) as u64)
+        index_of(self.families[i], self.at(2 * i + 1) as u64)
+    }
+    fn alphabet(&self, i: usize) -> usize {
+        self.at(2 * i)
+    }
+    // The word that stands after its alphabet.
+    fn word(&self) -> impl Iterator<Item = usize> {
+        self.list()[1..].iter().copied()
     }
     fn set(&self, i: usize) -> Combination {
         Combination::from_bits(self.at(i) as u64)
@@ -146,8 +156,21 @@ fn one(value: impl Display) -> Option<String> {
     Some(value.to_string())
 }
 
-fn signed_index((sign, index): (Sign, MonoIndex)) -> String {
-    format!("{sign} {}", index.shifted_bits())
+// An index over n, and one with its sign.
+fn over(n: usize, index: MonoIndex) -> String {
+    format!("{n} {}", index.shifted_bits())
+}
+
+fn signed_over(n: usize, (sign, index): (Sign, MonoIndex)) -> String {
+    format!("{sign} {}", over(n, index))
+}
+
+// The alphabet of an index that was unranked over none.
+fn widest(family: Repetition, k: usize) -> usize {
+    match family {
+        Repetition::Allowed if k > 0 => 65usize.saturating_sub(k),
+        _ => 64,
+    }
 }
 
 fn degree_and_rank(word: Word) -> Option<String> {
@@ -176,24 +199,24 @@ fn permutation_after(p: &Permutation) -> Option<Permutation> {
 fn answer(verb: &str, q: &Request) -> Option<String> {
     match verb {
         "count" => one(q.family().count(q.at(0), q.at(1))),
-        "walk" => MonoIndex::all(q.family(), q.at(0), q.at(1)).nth(q.at(2) - 1).map(|x| x.shifted_bits().to_string()),
+        "walk" => MonoIndex::all(q.family(), q.at(0), q.at(1)).nth(q.at(2) - 1).map(|x| over(q.at(0), x)),
         "unrank" => Some(line(q.family().word_from_rank(q.at(0), q.at(1), q.at(2)))),
         "unrankover" => {
             let word = q.family().word_from_rank(q.at(0), q.at(1), q.at(2));
-            one(MonoIndex::new(q.family(), word).shifted_bits())
+            Some(over(q.at(0), MonoIndex::new(q.family(), word)))
         }
-        "unrankany" => one(MonoIndex::from_rank(q.family(), q.at(0), q.at(1)).shifted_bits()),
+        "unrankany" => Some(over(widest(q.family(), q.at(0)), MonoIndex::from_rank(q.family(), q.at(0), q.at(1)))),
         "rank" => one(q.family().rank(q.list())),
         "rankof" => one(q.index(0).rank()),
-        "pack" => one(MonoIndex::new(q.family(), q.list().iter().copied()).shifted_bits()),
+        "pack" => Some(over(q.at(0), MonoIndex::new(q.family(), q.word()))),
         "unpack" => Some(line(q.index(0).word())),
-        "canonical" => MonoIndex::from_word(q.family(), q.list().iter().copied()).map(signed_index),
-        "next" => q.index(0).colex_successor().map(|x| x.shifted_bits().to_string()),
-        "merge" => q.index(0).merge(&q.index(1)).map(signed_index),
-        "delete" => q.index(0).deletions().nth(q.at(1)).map(|(sign, symbol, x)| format!("{sign} {symbol} {}", x.shifted_bits())),
-        "symbol" => one(q.index(0).symbol(q.at(1))),
+        "canonical" => MonoIndex::from_word(q.family(), q.word()).map(|t| signed_over(q.at(0), t)),
+        "next" => q.index(0).colex_successor().map(|x| over(q.alphabet(0), x)),
+        "merge" => q.index(0).merge(&q.index(1)).map(|t| signed_over(q.alphabet(0).max(q.alphabet(1)), t)),
+        "delete" => q.index(0).deletions().nth(q.at(2)).map(|(sign, symbol, x)| format!("{sign} {symbol} {}", over(q.alphabet(0), x))),
+        "symbol" => one(q.index(0).symbol(q.at(2))),
         "stabilizer" => one(q.index(0).stabilizer()),
-        "complement" => Some(signed_index(q.index(0).complement_signed(q.at(1)))),
+        "complement" => Some(signed_over(q.at(2), q.index(0).complement_signed(q.at(2)))),
         "degree" => one(q.index(0).degree()),
         "insert" => one(q.set(0).inserted(q.at(1)).bits()),
         "position" => one(q.set(0).position_of(q.at(1))),

@@ -1,6 +1,6 @@
 // Every verb on all small inputs: `all` puts them.
 
-use crate::requests::{Requests, count, list, two_lists};
+use crate::requests::{Requests, alphabets, count, index, least, list, two_lists, widest};
 
 const FAMILIES: [&str; 2] = ["forbidden", "allowed"];
 
@@ -52,8 +52,11 @@ fn words(to: &mut Requests) {
     let words = [lists(7, 4), lists(3, 7)].concat();
     for w in words {
         for f in FAMILIES {
-            for verb in ["rank", "pack", "canonical"] {
-                to.put(&format!("{verb} {f}{}", list(&w)));
+            to.put(&format!("rank {f}{}", list(&w)));
+            let (low, high) = (w.iter().max().map_or(0, |s| s + 1), widest(f, w.len() as u64));
+            for n in [low.saturating_sub(1), low, high, high + 1] {
+                to.put(&format!("pack {f} {n}{}", list(&w)));
+                to.put(&format!("canonical {f} {n}{}", list(&w)));
             }
         }
     }
@@ -64,30 +67,42 @@ fn indices(to: &mut Requests) {
     let all: Vec<u64> = (0..4096).chain(edges).collect();
     for x in all {
         for f in FAMILIES {
-            for verb in ["rankof", "unpack", "next", "stabilizer", "degree"] {
-                to.put(&format!("{verb} {f} {x}"));
+            for n in alphabets(f, x) {
+                for verb in ["rankof", "unpack", "next", "stabilizer", "degree"] {
+                    to.put(&format!("{verb} {f} {n} {x}"));
+                }
+                let p = x % 3;
+                to.put(&format!("delete {f} {n} {x} {p}"));
+                to.put(&format!("symbol {f} {n} {x} {p}"));
             }
             let k = x.count_ones() as u64;
             if x >= 1024 && x % 7 == 0 {
                 continue;
             }
+            let x = index(f, x);
             for p in 0..=k + 1 {
-                to.put(&format!("delete {f} {x} {p}"));
-                to.put(&format!("symbol {f} {x} {p}"));
+                to.put(&format!("delete {x} {p}"));
+                to.put(&format!("symbol {x} {p}"));
             }
-            to.put(&format!("room {} unpack {f} {x}", k.saturating_sub(1)));
-            to.put(&format!("room {k} unpack {f} {x}"));
+            to.put(&format!("room {} unpack {x}", k.saturating_sub(1)));
+            to.put(&format!("room {k} unpack {x}"));
         }
     }
 }
 
 fn pairs(to: &mut Requests) {
-    for (x, y) in (0..96).flat_map(|x| (0..96).map(move |y| (x, y))) {
+    for (x, y) in (0..96u64).flat_map(|x| (0..96u64).map(move |y| (x, y))) {
         for f in FAMILIES {
-            to.put(&format!("merge {f} {x} {f} {y}"));
+            let together = widest(f, (x.count_ones() + y.count_ones()) as u64);
+            to.put(&format!("merge {f} {together} {x} {f} {together} {y}"));
+            to.put(&format!("merge {f} {} {x} {f} {} {y}", least(f, x), least(f, y)));
+            to.put(&format!("merge {} {}", index(f, x), index(f, y)));
             if x < 12 && y < 12 {
                 for g in FAMILIES {
-                    to.put(&format!("merge {f} {x} {g} {y}"));
+                    to.put(&format!("merge {} {}", index(f, x), index(g, y)));
+                    for (n, m) in alphabets(f, x).into_iter().flat_map(|n| alphabets(g, y).map(|m| (n, m))) {
+                        to.put(&format!("merge {f} {n} {x} {g} {m} {y}"));
+                    }
                 }
             }
         }
@@ -98,17 +113,19 @@ fn pairs(to: &mut Requests) {
 fn sets(to: &mut Requests) {
     for x in 0..256u64 {
         for n in 0..=9 {
-            to.put(&format!("complement forbidden {x} {n}"));
+            for own in alphabets("forbidden", x) {
+                to.put(&format!("complement forbidden {own} {x} {n}"));
+            }
             to.put(&format!("insert {x} {n}"));
             to.put(&format!("position {x} {n}"));
             to.put(&format!("contains {x} {n}"));
         }
-        to.put(&format!("complement allowed {x} 8"));
+        to.put(&format!("complement {} 8", index("allowed", x)));
     }
     for s in 0..=66u64 {
         for x in [0, 1, 1 << 63, u64::MAX, u64::MAX >> 1, u64::MAX - 1] {
-            to.put(&format!("complement forbidden {x} {s}"));
-            to.put(&format!("complement allowed {x} {s}"));
+            to.put(&format!("complement {} {s}", index("forbidden", x)));
+            to.put(&format!("complement {} {s}", index("allowed", x)));
             to.put(&format!("insert {x} {s}"));
             to.put(&format!("position {x} {s}"));
             to.put(&format!("contains {x} {s}"));

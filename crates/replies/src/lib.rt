@@ -1,6 +1,7 @@
 // The answer to a request (docs/RULES.md, section 13), put into the buffer of the output from a place on. Each function answers the place
 // after it.
 use answers::Answer;
+use answers::Index;
 use answers::Indexed;
 use answers::Refusal;
 use answers::Sign;
@@ -8,6 +9,9 @@ use answers::Signed;
 use deletion::Deleted;
 use digits::Deleted as DigitDeleted;
 use digits::Worded;
+use monotone::Current;
+use monotone::Stepped;
+use monotone::Walk;
 use permutation::Signs;
 
 // What a request is answered with.
@@ -19,6 +23,7 @@ pub enum Reply {
     Sign(Signs),
     Signed(Signed),
     Deleted(Deleted),
+    Step(Stepped),
     DigitWord(Worded),
     DigitDeleted(DigitDeleted),
     Truth(bool),
@@ -54,10 +59,20 @@ fn answer(out: &mut [u8], at: usize, a: Answer) -> usize {
     }
 }
 
-// The bits of an index, or a refusal.
+// The alphabet and the bits of an index.
+fn put_index(out: &mut [u8], at: usize, x: Index) -> usize {
+    let at = text::put_number(out, at, x.alphabet);
+    let at = text::put_byte(out, at, b' ');
+    text::put_number(out, at, x.bits)
+}
+
+// The same alone, or a refusal.
 fn index(out: &mut [u8], at: usize, a: Indexed) -> usize {
     match a {
-        Indexed::At(x) => number(out, at, x.bits),
+        Indexed::At(x) => {
+            let at = put_index(out, at, x);
+            text::put_byte(out, at, b'\n')
+        }
         Indexed::Refused(e) => refusal(out, at, e),
     }
 }
@@ -81,27 +96,60 @@ fn signs(out: &mut [u8], at: usize, a: Signs) -> usize {
     }
 }
 
-// A sign and the bits of an index, or a refusal.
+// A sign, the alphabet and the bits of an index, or a refusal.
 fn signed(out: &mut [u8], at: usize, a: Signed) -> usize {
     match a {
         Signed::At(s, x) => {
             let at = sign(out, at, s);
             let at = text::put_byte(out, at, b' ');
-            number(out, at, x.bits)
+            let at = put_index(out, at, x);
+            text::put_byte(out, at, b'\n')
         }
         Signed::Refused(e) => refusal(out, at, e),
     }
 }
 
-// A sign, the deleted symbol and the bits of what is left, or a refusal.
+// A sign, the deleted symbol, the alphabet and the bits of what is left, or a refusal.
 fn deleted(out: &mut [u8], at: usize, a: Deleted) -> usize {
     match a {
         Deleted::At(s, symbol, x) => {
             let at = sign(out, at, s);
             let at = text::put_byte(out, at, b' ');
-            pair(out, at, symbol, x.bits)
+            let at = text::put_number(out, at, symbol);
+            let at = text::put_byte(out, at, b' ');
+            let at = put_index(out, at, x);
+            text::put_byte(out, at, b'\n')
         }
         Deleted::Refused(e) => refusal(out, at, e),
+    }
+}
+
+// Where a walk stands, and what remains of it.
+fn standing(out: &mut [u8], at: usize, w: Walk) -> usize {
+    let current = w.current;
+    match current {
+        Current::At(x) => {
+            let at = text::put(out, at, b"here ");
+            let at = put_index(out, at, x);
+            let at = text::put_byte(out, at, b' ');
+            number(out, at, w.remaining)
+        }
+        Current::Nothing => {
+            let at = text::put(out, at, b"nowhere ");
+            number(out, at, w.remaining)
+        }
+    }
+}
+
+// The index that a step gives and the walk after it, or a refusal.
+fn step(out: &mut [u8], at: usize, a: Stepped) -> usize {
+    match a {
+        Stepped::Step(x, w) => {
+            let at = put_index(out, at, x);
+            let at = text::put_byte(out, at, b' ');
+            standing(out, at, w)
+        }
+        Stepped::Refused(e) => refusal(out, at, e),
     }
 }
 
@@ -179,6 +227,7 @@ pub fn put(out: &mut [u8], at: usize, r: Reply, lent: &[u64]) -> usize {
         Reply::Sign(a) => signs(out, at, a),
         Reply::Signed(a) => signed(out, at, a),
         Reply::Deleted(a) => deleted(out, at, a),
+        Reply::Step(a) => step(out, at, a),
         Reply::DigitWord(a) => digit_word(out, at, a),
         Reply::DigitDeleted(a) => digit_deleted(out, at, a),
         Reply::Truth(a) => truth(out, at, a),

@@ -1,5 +1,5 @@
 // A request (docs/RULES.md, section 13), taken apart once: the words after its verb, each with a byte for its kind and its value.
-// The kinds: n a number, f and a the families, / itself.
+// The kinds: n a number, f and a the families, / itself, h and w the places of a walk (here, nowhere).
 ghost use Prim.Native.Nat.{_<_};
 ghost use lib.ListN.{length};
 ghost use Rattle.requests.specs.Bounds.{VerbWithin, WordsWithin};
@@ -58,6 +58,12 @@ fn kind(word: &[u8]) -> u8 {
     }
     if check::same(word, b"/") {
         return b'/';
+    }
+    if check::same(word, b"here") {
+        return b'h';
+    }
+    if check::same(word, b"nowhere") {
+        return b'w';
     }
     0
 }
@@ -143,7 +149,7 @@ fn after(kinds: &[u8], i: usize, letter: u8) -> usize {
     kinds.len() + 1
 }
 
-// Whether the words are those of a pattern: F a family, n a number, / itself, * a list of numbers.
+// Whether the words are those of a pattern: F a family, n a number, * a list of numbers, any other kind itself.
 fn fits(kinds: &[u8], pattern: &[u8]) -> bool {
     let mut i = 0;
     let mut j = 0;

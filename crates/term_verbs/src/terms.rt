@@ -3,6 +3,7 @@ use answers::Answer;
 use answers::Index;
 use answers::Indexed;
 use answers::Refusal;
+use monotone::Current;
 use monotone::Started;
 use monotone::Stepped;
 use monotone::Walk;
@@ -88,6 +89,25 @@ pub(crate) fn over(verb: &[u8], kinds: &[u8], values: &[u64], lent: &mut [u64]) 
     Reply::Bad
 }
 
+// The requests on a walk that was made up.
+pub(crate) fn of_walk(verb: &[u8], kinds: &[u8], values: &[u64]) -> Reply {
+    if requests::asks(verb, kinds, b"step hFnnn") {
+        let current = Current::At(Index {
+            family: requests::family(kinds, 1),
+            alphabet: requests::number(values, 2),
+            bits: requests::number(values, 3),
+        });
+        let remaining = requests::number(values, 4);
+        return Reply::Step(monotone::step(Walk { current, remaining }));
+    }
+    if requests::asks(verb, kinds, b"step wFn") {
+        let current = Current::Nothing;
+        let remaining = requests::number(values, 2);
+        return Reply::Step(monotone::step(Walk { current, remaining }));
+    }
+    Reply::Bad
+}
+
 // The requests on a word.
 pub(crate) fn of_word(verb: &[u8], kinds: &[u8], values: &[u64]) -> Reply {
     let f = requests::family(kinds, 0);
@@ -95,8 +115,12 @@ pub(crate) fn of_word(verb: &[u8], kinds: &[u8], values: &[u64]) -> Reply {
     if requests::asks(verb, kinds, b"rank F*") {
         return Reply::Number(monotone::rank(f, w));
     }
-    if requests::asks(verb, kinds, b"pack F*") {
-        return Reply::Index(monotone::pack(f, w));
+    if requests::asks(verb, kinds, b"pack Fn*") {
+        return Reply::Index(monotone::pack(
+            f,
+            requests::number(values, 1),
+            requests::list(values, 2),
+        ));
     }
     Reply::Bad
 }
@@ -105,23 +129,24 @@ pub(crate) fn of_word(verb: &[u8], kinds: &[u8], values: &[u64]) -> Reply {
 pub(crate) fn of_index(verb: &[u8], kinds: &[u8], values: &[u64], lent: &mut [u64]) -> Reply {
     let x = Index {
         family: requests::family(kinds, 0),
-        bits: requests::number(values, 1),
+        alphabet: requests::number(values, 1),
+        bits: requests::number(values, 2),
     };
-    let p = requests::number(values, 2);
-    if requests::asks(verb, kinds, b"rankof Fn") {
-        return Reply::Number(Answer::Is(monotone::rank_of(x)));
+    let p = requests::number(values, 3);
+    if requests::asks(verb, kinds, b"rankof Fnn") {
+        return Reply::Number(monotone::rank_of(x));
     }
-    if requests::asks(verb, kinds, b"unpack Fn") {
+    if requests::asks(verb, kinds, b"unpack Fnn") {
         return Reply::Places(monotone::unpack(x, lent));
     }
-    if requests::asks(verb, kinds, b"next Fn") {
+    if requests::asks(verb, kinds, b"next Fnn") {
         return Reply::Index(monotone::successor(x));
     }
-    if requests::asks(verb, kinds, b"symbol Fnn") {
+    if requests::asks(verb, kinds, b"symbol Fnnn") {
         return Reply::Number(monotone::symbol(x, p));
     }
-    if requests::asks(verb, kinds, b"degree Fn") {
-        return Reply::Number(Answer::Is(monotone::degree(x)));
+    if requests::asks(verb, kinds, b"degree Fnn") {
+        return Reply::Number(monotone::degree(x));
     }
     Reply::Bad
 }
