@@ -1,6 +1,7 @@
 -- Where a given word is refused with 2, for both families at once (02, §5). Assumes nothing.
 --   checked-breaks    the checks of a word refuse with 2 only a word that breaks its rule, and carry the place where it does
 --   breaks-exactly-there    and they do so exactly at the first break of a word of at most 64 symbols: rank, and whatever has these checks
+--   breaks-exactly-there-over    the same of a word that is given with an alphabet: packing
 use mathlib.Core.Path.{_≡_, refl, sym, ap, subst, _∙_}
 use mathlib.Core.Bool.{Bool, true, false, not}
 use mathlib.Core.Logic.{_↔_}
@@ -11,14 +12,16 @@ use borrow.Author.Tests.{ltb-false, le-ltb}
 use lib.Dec.{ltb}
 use lib.ListN.{length, getD}
 use Rattle.words.specs.declared.Family.{Family}
+use Rattle.words.specs.Word.{shiftedAlphabet}
 use Rattle.words.proofs.Positions.{monotone-at}
-use Rattle.answers.specs.Says.{refusesWith, refusesAt, gives, refusedIf, refusedAtIf}
+use Rattle.bits.specs.Member.{reaches}
+use Rattle.answers.specs.Says.{Says, refusesWith, refusesAt, gives, refusedIf, refusedAtIf}
 use Rattle.answers.proofs.Says.{gives-never}
 use Rattle.packing.specs.Checks.{rises, breakAt, lastShifted}
 use Rattle.packing.specs.Breaks.{FirstBreak}
 use Rattle.packing.proofs.Checks.{rises-is-monotone}
 use Rattle.packing.proofs.Breaks.{breaks-at-the-first-pair, first-break-is-one}
-use Rattle.monotone.specs.Rules.{checked}
+use Rattle.monotone.specs.Rules.{checked, checkedOver}
 
 pub checked-breaks : {A : Type 0} (F : Family) (w : List ℕ) (a : A) (c : List ℕ) → checked F w a ≡ refusesWith 2 c
     → (length w ≤ 64) × (rises F w ≡ false) × (c ≡ breakAt F w ∷ [])
@@ -55,3 +58,67 @@ breaks-exactly-there F w a p = (to, from)
         let r : rises F w ≡ false = first-break-breaks F w p (t .1) in
         let e : breakAt F w ≡ p = first-break-is-one F w (breakAt F w) p (breaks-at-the-first-pair F w r) (t .1) in
         simp (le-ltb 64 (length w) (t .0), r, e)
+
+-- ---- a word that is given with an alphabet
+
+-- where n's shifted alphabet has room, the checks with n refuse with 2 as those without
+over-breaks : {A : Type 0} (F : Family) (n : ℕ) (w : List ℕ) (a : A) (p : ℕ) → length w ≤ 64 → shiftedAlphabet F n (length w) ≤ 64
+    → (checkedOver F n w a ≡ refusesAt 2 p) ↔ (checked F w a ≡ refusesAt 2 p)
+over-breaks F n w a p h l = (to, from)
+  where
+    over : checkedOver F n w a ≡ refusedAtIf (not (rises F w)) 2 (breakAt F w) (refusedIf (ltb 63 (lastShifted F w)) 1 (refusedIf (reaches n w) 7 (gives a)))
+    over = simp (le-ltb 64 (length w) h, le-ltb 64 (shiftedAlphabet F n (length w)) l)
+
+    bare : checked F w a ≡ refusedAtIf (not (rises F w)) 2 (breakAt F w) (refusedIf (ltb 63 (lastShifted F w)) 1 (gives a))
+    bare = simp (le-ltb 64 (length w) h)
+
+    last : (t u : Bool) → refusedIf t 1 (refusedIf u 7 (gives a)) ≡ refusesAt 2 p → ⊥
+    last true u e = let z : _≡_ {A = ℕ} 1 2 = cc in omega arith
+    last false true e = let z : _≡_ {A = ℕ} 7 2 = cc in omega arith
+    last false false e = gives-never a 2 (p ∷ []) e
+
+    bare-last : (t : Bool) → refusedIf t 1 (gives a) ≡ refusesAt 2 p → ⊥
+    bare-last true e = let z : _≡_ {A = ℕ} 1 2 = cc in omega arith
+    bare-last false e = gives-never a 2 (p ∷ []) e
+
+    to : checkedOver F n w a ≡ refusesAt 2 p → checked F w a ≡ refusesAt 2 p
+    to e = bare ∙ go (not (rises F w)) (sym over ∙ e)
+      where
+        go : (t : Bool) → refusedAtIf t 2 (breakAt F w) (refusedIf (ltb 63 (lastShifted F w)) 1 (refusedIf (reaches n w) 7 (gives a))) ≡ refusesAt 2 p
+            → refusedAtIf t 2 (breakAt F w) (refusedIf (ltb 63 (lastShifted F w)) 1 (gives a)) ≡ refusesAt 2 p
+        go true f = let z : breakAt F w ≡ p = cc in ap (refusesAt 2) z
+        go false f = absurd (last (ltb 63 (lastShifted F w)) (reaches n w) f)
+
+    from : checked F w a ≡ refusesAt 2 p → checkedOver F n w a ≡ refusesAt 2 p
+    from e = over ∙ go (not (rises F w)) (sym bare ∙ e)
+      where
+        go : (t : Bool) → refusedAtIf t 2 (breakAt F w) (refusedIf (ltb 63 (lastShifted F w)) 1 (gives a)) ≡ refusesAt 2 p
+            → refusedAtIf t 2 (breakAt F w) (refusedIf (ltb 63 (lastShifted F w)) 1 (refusedIf (reaches n w) 7 (gives a))) ≡ refusesAt 2 p
+        go true f = let z : breakAt F w ≡ p = cc in ap (refusesAt 2) z
+        go false f = absurd (bare-last (ltb 63 (lastShifted F w)) f)
+
+-- only a word of at most 64 symbols whose alphabet is not too wide gets as far
+over-reached : {A : Type 0} (F : Family) (n : ℕ) (w : List ℕ) (a : A) (p : ℕ) → checkedOver F n w a ≡ refusesAt 2 p
+    → (length w ≤ 64) × (shiftedAlphabet F n (length w) ≤ 64)
+over-reached {A = A} F n w a p e = go (ltb 64 (length w)) refl (ltb 64 (shiftedAlphabet F n (length w))) refl e
+  where
+    rest : Says A
+    rest = refusedAtIf (not (rises F w)) 2 (breakAt F w) (refusedIf (ltb 63 (lastShifted F w)) 1 (refusedIf (reaches n w) 7 (gives a)))
+
+    go : (s : Bool) → ltb 64 (length w) ≡ s → (t : Bool) → ltb 64 (shiftedAlphabet F n (length w)) ≡ t → refusedIf s 1 (refusedIf t 1 rest) ≡ refusesAt 2 p
+        → (length w ≤ 64) × (shiftedAlphabet F n (length w) ≤ 64)
+    go true h t l f = absurd (let z : _≡_ {A = ℕ} 1 2 = cc in omega arith)
+    go false h true l f = absurd (let z : _≡_ {A = ℕ} 1 2 = cc in omega arith)
+    go false h false l f = (ltb-false 64 (length w) h, ltb-false 64 (shiftedAlphabet F n (length w)) l)
+
+pub breaks-exactly-there-over : {A : Type 0} (F : Family) (n : ℕ) (w : List ℕ) (a : A) (p : ℕ)
+    → (checkedOver F n w a ≡ refusesAt 2 p) ↔ ((length w ≤ 64) × (shiftedAlphabet F n (length w) ≤ 64) × FirstBreak F w p)
+breaks-exactly-there-over F n w a p = (to, from)
+  where
+    to : checkedOver F n w a ≡ refusesAt 2 p → (length w ≤ 64) × (shiftedAlphabet F n (length w) ≤ 64) × FirstBreak F w p
+    to e =
+        let h : (length w ≤ 64) × (shiftedAlphabet F n (length w) ≤ 64) = over-reached F n w a p e in
+        (h .0, h .1, breaks-exactly-there F w a p .0 (over-breaks F n w a p (h .0) (h .1) .0 e) .1)
+
+    from : (length w ≤ 64) × (shiftedAlphabet F n (length w) ≤ 64) × FirstBreak F w p → checkedOver F n w a ≡ refusesAt 2 p
+    from t = over-breaks F n w a p (t .0) (t .1) .1 (breaks-exactly-there F w a p .1 (t .0, t .2))
