@@ -2,6 +2,7 @@
 --   count-tells-how-many-words    the count is how many lists of k symbols below n there are
 --   symbols-of-word    over lists: the symbols of the word that has given symbols are these
 --   symbols-tell-the-word, word-tells-the-symbols    from symbols to the word and back, and from a word to its symbols and back, changes nothing
+--   rank-tells-how-many-earlier    the rank of a word is how many lists of as many symbols below its radix stand earlier in colex order
 --   concatenation-joins-the-symbols    the symbols of a concatenation are those of the first word, followed by those of the second
 --   deletion-takes-a-position-out    deletion gives the symbol at the position, and its word has the other symbols
 --   outside-has-no-multiplicity    a symbol that is not below the radix stands nowhere
@@ -18,6 +19,7 @@ use lib.Dec.{leb, ltb, eqb}
 use lib.ListN.{length, getD, take, drop, replicate, length-append, length-replicate}
 use Rattle.words.specs.Without.{without}
 use Rattle.words.specs.Word.{Below}
+use Rattle.words.specs.Colex.{ColexLt}
 use Rattle.words.specs.HowMany.{HowMany}
 use Rattle.words.specs.Inversions.{multiplicity}
 use Rattle.words.proofs.Inversions.{absent-is-none}
@@ -29,7 +31,7 @@ use Rattle.bits.proofs.Member.{reaches-not}
 use Rattle.positional.specs.Positional.{product, stride, Digits, numberOf}
 use Rattle.positional.proofs.Digits.{digits-good, number-of-digits, digits-of-number, number-below}
 use Rattle.positional.proofs.Equal.{product-equal, stride-equal, below-is-digits}
-use Rattle.positional.proofs.Counted.{product-is-how-many-digits}
+use Rattle.positional.proofs.Counted.{product-is-how-many-digits, number-is-how-many-earlier}
 use Rattle.cartesian.specs.Checks.{fits, someUpTo, tooBig}
 use Rattle.cartesian.specs.Rules.{delinearizeSays}
 use Rattle.deletion.specs.Multiplicities.{stabilizerBelow, stabilizerOf}
@@ -96,6 +98,17 @@ word-tells-the-symbols x room w e =
     ap (fromSymbolsSays n) (sym (gives-same (symbolsOf x) w (p .1)))
     ∙ simp (le-ltb 64 (length (symbolsOf x)) (omega (arith, l, d .short)), reaches-not n (symbolsOf x) .1 (symbols-below x (d .low)), lt-leb (2 ^ 64) (n ^ length (symbolsOf x)) small)
     (ap gives same)
+
+pub rank-tells-how-many-earlier : (x : DigitWord) (room : ℕ) (w : List ℕ) → symbolsSays x room ≡ gives w
+    → HowMany (λ (u : List ℕ). Digits (replicate (x .degree) (x .radix)) u × ColexLt u w) (x .rank)
+rank-tells-how-many-earlier x room w e =
+    let rs : List ℕ = replicate (x .degree) (x .radix) in
+    let t = checks-of x (refusedIf (ltb room (x .degree)) 8 (gives (symbolsOf x))) w e in
+    let p = passed (ltb room (x .degree)) 8 (gives (symbolsOf x)) w (t .2) in
+    let b : x .rank < product rs = omega (arith, product-equal (x .radix) (x .degree), known x (t .0) (t .1) .low) in
+    subst (λ (v : List ℕ). HowMany (λ (u : List ℕ). Digits rs u × ColexLt u v) (x .rank)) (gives-same (symbolsOf x) w (p .1))
+    (subst (HowMany (λ (u : List ℕ). Digits rs u × ColexLt u (symbolsOf x))) (number-of-digits rs (x .rank) b)
+    (number-is-how-many-earlier rs (symbolsOf x) (digits-good rs (x .rank) b)))
 
 -- ---- concatenation and deletion
 

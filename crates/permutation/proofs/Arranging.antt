@@ -1,18 +1,19 @@
 -- Answers that give a permutation. Assumes nothing.
 --   word-of-record, record-holds    the record of a list holds that list
 --   arranges-refusal, arranges-given    what such an answer says, from how it was made
+--   arranged-is-whole    the record beside the verdict has all its entries, if no list that is given passes the capacity
 use mathlib.Core.Path.{_≡_, refl, ap, subst⁻¹, _∙_}
 use mathlib.Core.List.{List}
 use Prim.Native.Nat.{ℕ, _≤_}
 use native.Mathlib.Omega.{arith}
-use lib.ListN.{length, drop}
+use lib.ListN.{length, drop, length-append, length-drop}
 use lib.Seq.{take-append-seam}
 use Rattle.arrangements.specs.Permutation.{Permutation as IsPermutation}
 use Rattle.answers.specs.declared.Refusal.{Refusal}
 use Rattle.answers.specs.Says.{Says, refusesWith, gives, numberOf, carriedBy}
 use Rattle.permutation.specs.declared.Permutation.{Permutation}
 use Rattle.permutation.specs.declared.Arranged.{Arranged}
-use Rattle.permutation.specs.Record.{capacity, zeros, wordOf, recordOf, Holds, refusal, giving, Arranges}
+use Rattle.permutation.specs.Record.{capacity, zeros, wordOf, recordOf, Whole, Holds, valueOf, refusal, giving, Arranges}
 
 pub word-of-record : (w : List ℕ) → wordOf (recordOf w) ≡ w
 word-of-record w = take-append-seam w (drop (length w) zeros)
@@ -31,3 +32,10 @@ pub arranges-given : (s : Says (List ℕ)) (r : Arranged) (p : Permutation) (w :
 arranges-given s r p w q e t =
     subst⁻¹ (λ (x : Arranged). Arranges s x) (q ∙ ap giving e)
     (subst⁻¹ (λ (x : Says (List ℕ)). Arranges x (giving (recordOf w))) t (record { says = ap gives (word-of-record w); value = refl }))
+
+pub arranged-is-whole : (s : Says (List ℕ)) (r : Arranged) → ((w : List ℕ) → s ≡ gives w → length w ≤ capacity) → Arranges s r → Whole (r .value)
+arranged-is-whole s r short a = subst⁻¹ Whole (a .value) (go s short)
+  where
+    go : (s : Says (List ℕ)) → ((w : List ℕ) → s ≡ gives w → length w ≤ capacity) → Whole (valueOf s)
+    go (refusesWith e c) h = refl
+    go (gives w) h = omega (arith, h w refl, length-append w (drop (length w) zeros), length-drop (length w) zeros)

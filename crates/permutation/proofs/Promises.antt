@@ -9,6 +9,7 @@
 --   composition-is-a-permutation, inverse-of-a-permutation    what is given is a permutation of that length
 --   compose-with-inverse    the inverse composed with p, either way round, is the identity
 --   composition-is-associative    either way of composing three says the same
+--   inverse-gives-a-whole-record, compose-gives-a-whole-record    a record that is given has all its entries
 --   sign-of-composition, sign-of-inverse    the sign of a composition is the product of the signs; that of the inverse is the sign
 use mathlib.Core.Path.{_≡_, refl, sym, ap, ap₂, subst⁻¹, _∙_}
 use mathlib.Core.Logic.{_↔_}
@@ -32,10 +33,11 @@ use Rattle.answers.specs.Signs.{signOf, times}
 use Rattle.answers.proofs.Says.{gives-same, refuses-same, gives-no-refusal, passed, then-gave}
 use Rattle.answers.proofs.Signs.{sign-of-parity, times-of-sum}
 use Rattle.permutation.specs.declared.Permutation.{Permutation}
-use Rattle.permutation.specs.Record.{capacity, wordOf, recordOf, Whole, Holds, Agree}
+use Rattle.permutation.specs.declared.Arranged.{Arranged}
+use Rattle.permutation.specs.Record.{capacity, wordOf, recordOf, Whole, Holds, Agree, Arranges}
 use Rattle.permutation.specs.Rules.{tooLong, notAPermutation, taken, imageSays, inverseSays, composeSays, signSays}
 use Rattle.permutation.proofs.Taken.{taken-holds, holds-taken, tested-holds}
-use Rattle.permutation.proofs.Arranging.{word-of-record, record-holds}
+use Rattle.permutation.proofs.Arranging.{word-of-record, record-holds, arranged-is-whole}
 
 -- ---- the records that are taken
 
@@ -213,6 +215,16 @@ composition-is-associative p q r l m k u v e f =
 
     pv : IsPermutation (q .len) v
     pv = composition-is-a-permutation q r m k v f
+
+-- ---- the records that are given
+
+pub inverse-gives-a-whole-record : (p : Permutation) → Whole p → (r : Arranged) → Arranges (inverseSays p) r → Whole (r .value)
+inverse-gives-a-whole-record p l r a =
+    arranged-is-whole (inverseSays p) r (λ v e. omega (arith, inverse-given p l v e .0 .short, inverse-of-a-permutation p l v e .long)) a
+
+pub compose-gives-a-whole-record : (p q : Permutation) → Whole p → Whole q → (r : Arranged) → Arranges (composeSays p q) r → Whole (r .value)
+compose-gives-a-whole-record p q l m r a =
+    arranged-is-whole (composeSays p q) r (λ w e. omega (arith, compose-given p q l m w e .left .short, composition-is-a-permutation p q l m w e .long)) a
 
 -- ---- the sign
 

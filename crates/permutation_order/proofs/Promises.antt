@@ -9,6 +9,7 @@
 --   successor-exactly    the successor is the permutation of the next rank
 --   successor-is-next    it is later, and nothing lies between
 --   last-exactly    4 exactly at the identity
+--   unrank-gives-a-whole-record, successor-gives-a-whole-record    a record that is given has all its entries
 use mathlib.Core.Path.{_≡_, refl, sym, ap, subst, subst⁻¹, _∙_}
 use mathlib.Core.Logic.{_↔_}
 use mathlib.Core.Bool.{Bool, true, false}
@@ -32,10 +33,11 @@ use Rattle.arrangements.proofs.Next.{next-is-later, nothing-between}
 use Rattle.answers.specs.Says.{Says, refuses, gives, refusedIf, andThen}
 use Rattle.answers.proofs.Says.{gives-same, refuses-same, gives-no-refusal, passed, then-gave}
 use Rattle.permutation.specs.declared.Permutation.{Permutation}
-use Rattle.permutation.specs.Record.{capacity, wordOf, recordOf, Whole, Holds}
+use Rattle.permutation.specs.declared.Arranged.{Arranged}
+use Rattle.permutation.specs.Record.{capacity, wordOf, recordOf, Whole, Holds, Arranges}
 use Rattle.permutation.specs.Rules.{tooLong, taken}
 use Rattle.permutation.proofs.Taken.{taken-holds, holds-taken}
-use Rattle.permutation.proofs.Arranging.{word-of-record, record-holds}
+use Rattle.permutation.proofs.Arranging.{word-of-record, record-holds, arranged-is-whole}
 use Rattle.permutation.proofs.Promises.{Judged, long, broken, held, judged, past-the-length-is-ignored}
 use Rattle.permutation_order.specs.Rules.{rankSays, unrankSays, successorSays}
 
@@ -167,3 +169,13 @@ module _ (p : Permutation) (l : Whole p) where
       from t =
           successor-of (t .0)
           ∙ simp (le-leb (factorial (p .len)) (suc (rankOf (wordOf p))) (omega (arith, identity-rank (p .len), ap rankOf (t .1))))
+
+-- ---- the records that are given
+
+pub unrank-gives-a-whole-record : (n r : ℕ) (a : Arranged) → Arranges (unrankSays n r) a → Whole (a .value)
+unrank-gives-a-whole-record n r a h =
+    arranged-is-whole (unrankSays n r) a (λ w e. let t = unrank-exactly n r w .0 e in omega (arith, t .0, t .1 .long)) h
+
+pub successor-gives-a-whole-record : (p : Permutation) → Whole p → (r : Arranged) → Arranges (successorSays p) r → Whole (r .value)
+successor-gives-a-whole-record p l r h =
+    arranged-is-whole (successorSays p) r (λ w e. let t = successor-exactly p l w .0 e in omega (arith, t .0 .short, t .1 .long)) h
