@@ -6,11 +6,15 @@
 --   one-deletion, one-digit-deletion    a deletion from an index, and from a digit word
 --   one-digit-word    a digit word
 --   one-sign    a sign
+--   one-number    what a word of text says as a number
 --   one-permutation    a permutation: here the contract says both what the answer says and which record stands beside the verdict
 use mathlib.Core.Path.{_≡_, refl, sym, ap, ap₂, _∙_}
 use mathlib.Core.List.{List, [], _∷_}
 use Prim.Native.Nat.{ℕ}
 use lib.ListN.{getD}
+use Rattle.text.specs.declared.Number.{Number}
+use Rattle.text.specs.declared.Number.the-variants as number
+use Rattle.text.specs.Numeral.{Reads}
 use Rattle.answers.specs.declared.Refusal.{Refusal}
 use Rattle.answers.specs.declared.Refusal.the-variants.{TooWide, NotMonotone, NoSuchRank, Last, Repeated, FamilyDiffers, Outside, Shape, TooBig, NotAPermutation}
 use Rattle.answers.specs.declared.Answer.{Answer}
@@ -141,3 +145,11 @@ one-verdict (verdict.Refused c) (verdict.Refused d) a b e = ap verdict.Refused (
 pub one-permutation : (s : Says (List ℕ)) (a b : Arranged) → Arranges s a → Arranges s b → a ≡ b
 one-permutation s a b h k =
     ap₂ (λ (v : Verdict) (p : Permutation). record { verdict = v; value = p }) (one-verdict (a .verdict) (b .verdict) _ _ (h .says ∙ sym (k .says))) (h .value ∙ sym (k .value))
+
+-- ---- what is read
+
+pub one-number : (w : List ℕ) (a b : Number) → Reads w a → Reads w b → a ≡ b
+one-number w (number.Is m) (number.Is n) h k = ap number.Is (sym (h .0 .value) ∙ k .0 .value)
+one-number w (number.Is m) number.Bad h k = absurd (k m (h .1) (h .0))
+one-number w number.Bad (number.Is n) h k = absurd (h n (k .1) (k .0))
+one-number w number.Bad number.Bad h k = refl
