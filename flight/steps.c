@@ -95,6 +95,12 @@ static uint64_t pattern(unsigned k, unsigned kind)
 static uint64_t word[80], other[80], out[80], a, b, c;
 static bool yes, sign;
 
+static void version(void)
+{
+    about("gudrenoss_version", "none");
+    CALL(gudrenoss_version(&a, &b, &c));
+}
+
 static void terms(void)
 {
     for (unsigned f = 0; f < 2; f++) {
@@ -392,6 +398,7 @@ static void child(void)
 {
     ptrace(PTRACE_TRACEME, 0, 0, 0);
     raise(SIGSTOP);
+    version();
     terms();
     words();
     signed_operations();

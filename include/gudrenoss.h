@@ -3,7 +3,7 @@
  *
  * The source of every function below is proved to do what is said here, for all inputs. docs/RULES.md has the same rules with more
  * examples, docs/PROMISES.md says what the proofs rest on. Link with libgudrenoss.a, which is for x86-64 Linux and needs nothing but
- * memcpy, memmove and memset. Sections: one rule, words, pointers, refusals, then the functions: terms, signed operations, sets,
+ * memcpy and memset. Sections: one rule, words, pointers, version, refusals, then the functions: terms, signed operations, sets,
  * permutations, shapes, digit words, exponents.
  *
  * ONE RULE
@@ -48,15 +48,18 @@
  * POINTERS
  *
  * Memory is the caller's own: the library has no heap, no global state and no locks, keeps no pointer after it returns, and may
- * be called from several threads and from a signal handler. It uses a few kilobytes of stack.
+ * be called from several threads and from a signal handler. It uses less than a kilobyte of stack (docs/FLIGHT.md).
  *
  * - A list that is read is a pointer and its length: const uint64_t *word, size_t word_len. At least that many places must be
- *   readable there.
+ *   readable there, and they must not change during the call.
  * - A buffer that is filled is a pointer and its room: uint64_t *word, size_t word_room. At least that many places must be
  *   writable there. The function writes from place 0 up, stores in *written how many places it has written, and leaves the places
  *   after those as they were. Too little room is refused 8, always as the last check.
  * - Every other pointer is to one place that may be written, entries[20] to twenty places; it is never NULL.
- * - Pointers are aligned as their type asks. A place or buffer that is written must not overlap another one or a list that is read.
+ * - Pointers are aligned as their type asks.
+ * - A place or buffer that is written must not overlap another one or a list that is read: such a call gives wrong numbers or ends
+ *   the program. Two lists that are read may overlap, and a value that is passed may be that of the place of a result, as in
+ *   gudrenoss_successor(true, bits, &bits).
  * - A bool holds true or false and nothing else, also where it is read through a pointer.
  * - Where a length or a room is 0, nothing is read or written through its pointer. Pass any pointer to memory of your own. NULL is
  *   outside what the proofs speak of; the code is compiled without the assumption that such a pointer is not NULL, and is tested
@@ -69,6 +72,10 @@
 #include <stddef.h>
 #include <stdint.h>
 
+/* The version of this header. gudrenoss_version tells that of the library. */
+#define GUDRENOSS_VERSION_MAJOR 0
+#define GUDRENOSS_VERSION_MINOR 1
+#define GUDRENOSS_VERSION_PATCH 0
 #define GUDRENOSS_VERSION "0.1.0"
 
 #ifdef __cplusplus
@@ -105,11 +112,34 @@ enum gudrenoss_number {
     GUDRENOSS_NOT_A_PERMUTATION = 10  /* the entries are no bijection of 0 .. len - 1 */
 };
 
+/* What the number of a refusal means, in a few words. It stands here and not in the library. */
+static inline const char *gudrenoss_refusal_text(uint64_t number)
+{
+    switch (number) {
+    case GUDRENOSS_OK: return "no refusal";
+    case GUDRENOSS_TOO_WIDE: return "a limit on width is passed";
+    case GUDRENOSS_NOT_MONOTONE: return "the word breaks its family's rule";
+    case GUDRENOSS_NO_SUCH_RANK: return "the rank is not below the count";
+    case GUDRENOSS_LAST: return "there is no next word";
+    case GUDRENOSS_REPEATED: return "a symbol occurs twice";
+    case GUDRENOSS_FAMILY: return "the families do not fit";
+    case GUDRENOSS_OUTSIDE: return "a symbol, digit, axis or position is outside its bound";
+    case GUDRENOSS_SHAPE: return "lengths or radices differ, or a buffer is too short";
+    case GUDRENOSS_TOO_BIG: return "the number is 2^64 or more";
+    case GUDRENOSS_NOT_A_PERMUTATION: return "the entries are no permutation";
+    default: return "no function gives this number";
+    }
+}
+
 /* A permutation sends i to entries[i]. Entries past the length are ignored when it is passed, and zero when one is given. */
 typedef struct gudrenoss_permutation {
     uint64_t entries[20];
     uint64_t len;
 } gudrenoss_permutation;
+
+/* The version of the library that is linked. Never refused.
+ *   *major, *minor, *patch: its three numbers, which should be those of this header */
+gudrenoss_refusal gudrenoss_version(uint64_t *major, uint64_t *minor, uint64_t *patch);
 
 /* ---- Terms ------------------------------------------------------------------------------------------------------------------ */
 

@@ -223,6 +223,33 @@ static const uint64_t *last_falls(void)
 
 static const bool forbidden = false, allowed = true, plus = false, minus = true;
 
+/* ---- Version and texts ------------------------------------------------------------------------------------------------------ */
+
+static void test_version(void)
+{
+    before.number_0 = GUDRENOSS_VERSION_MAJOR;
+    before.number_1 = GUDRENOSS_VERSION_MINOR;
+    before.number_2 = GUDRENOSS_VERSION_PATCH;
+    look(__LINE__, gudrenoss_version(X, Y, Z), GUDRENOSS_OK, 0);
+}
+
+static bool same_text(const char *a, const char *b)
+{
+    while (*a != '\0' && *a == *b)
+        a++, b++;
+    return *a == *b;
+}
+
+/* Every number has a text of its own, and one that no function gives has another. */
+static void test_texts(void)
+{
+    for (uint64_t i = 0; i <= 11; i++)
+        for (uint64_t j = 0; j < i; j++)
+            check(__LINE__, !same_text(gudrenoss_refusal_text(i), gudrenoss_refusal_text(j)), "two numbers have one text");
+    check(__LINE__, same_text(gudrenoss_refusal_text(11), gudrenoss_refusal_text(top)), "the text of no number");
+    check(__LINE__, same_text(gudrenoss_refusal_text(GUDRENOSS_LAST), "there is no next word"), "the text of a number");
+}
+
 /* ---- Terms ------------------------------------------------------------------------------------------------------------------ */
 
 static void test_count(void)
@@ -724,6 +751,8 @@ static void test_exponents(void)
 int main(void)
 {
     fresh();
+    test_version();
+    test_texts();
     test_count();
     test_pack();
     test_unpack();

@@ -266,6 +266,13 @@ struct outcome {
     struct answer model;
 };
 
+static struct outcome call_version(void)
+{
+    fresh(0);
+    ready();
+    return (struct outcome){gudrenoss_version(&value[0].value, &value[1].value, &value[2].value), model_version()};
+}
+
 static struct outcome call_count(void)
 {
     bool allowed = coin();
@@ -749,6 +756,7 @@ struct target {
 #define TARGET(name) {#name, call_##name, {0}, 0}
 
 static struct target targets[] = {
+    TARGET(version),
     TARGET(count), TARGET(pack), TARGET(unpack), TARGET(degree), TARGET(symbol), TARGET(rank), TARGET(rank_of),
     TARGET(unrank), TARGET(unrank_over), TARGET(unrank_any), TARGET(successor), TARGET(walk_start), TARGET(walk_step),
     TARGET(canonicalise), TARGET(merge), TARGET(delete), TARGET(complement), TARGET(stabilizer),

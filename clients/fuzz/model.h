@@ -15,6 +15,8 @@ struct answer {
     uint64_t list[64];
 };
 
+struct answer model_version(void);
+
 struct answer model_count(bool allowed, uint64_t n, uint64_t k);
 struct answer model_pack(bool allowed, const uint64_t *word, size_t len);
 struct answer model_unpack(bool allowed, uint64_t bits, size_t room);

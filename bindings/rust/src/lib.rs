@@ -50,3 +50,16 @@ pub use permutation::Permutation;
 pub use refusal::Refusal;
 pub use sign::Sign;
 pub use symbols::Symbols;
+
+/// The version of the library that is linked: major, minor, patch.
+///
+/// ```
+/// let (major, minor, patch) = gudrenoss::version();
+/// assert_eq!(format!("{major}.{minor}.{patch}"), env!("CARGO_PKG_VERSION"));
+/// ```
+#[must_use]
+pub fn version() -> (u64, u64, u64) {
+    let (mut major, mut minor, mut patch) = (0, 0, 0);
+    let _ = sys::gudrenoss_version(&mut major, &mut minor, &mut patch);
+    (major, minor, patch)
+}

@@ -25,6 +25,8 @@ pub struct Record {
 }
 
 unsafe extern "C" {
+    pub safe fn gudrenoss_version(major: &mut u64, minor: &mut u64, patch: &mut u64) -> Status;
+
     pub safe fn gudrenoss_count(allowed: bool, n: u64, k: u64, count: &mut u64) -> Status;
     pub safe fn gudrenoss_degree(allowed: bool, bits: u64, degree: &mut u64) -> Status;
     pub safe fn gudrenoss_symbol(allowed: bool, bits: u64, p: u64, symbol: &mut u64) -> Status;

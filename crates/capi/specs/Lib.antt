@@ -1,2 +1,3 @@
 pub mod DigitWords
 pub mod Permutations
+pub mod Version

@@ -8,6 +8,7 @@
 //   shapes          count, strides, linearize, delinearize, corner
 //   digit_words     count, from symbols, symbols, symbol, multiplicity, stabilizer, concatenation, deletion
 //   exponents       to a word, from a word, rank, from a rank, addition
+//   version         the version of the library
 mod digit_words;
 mod exponents;
 mod permutations;
@@ -15,3 +16,4 @@ mod sets;
 mod shapes;
 mod signed;
 mod terms;
+mod version;
