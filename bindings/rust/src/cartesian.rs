@@ -18,44 +18,64 @@ pub struct Radix<'a> {
 
 impl<'a> Radix<'a> {
     /// The shape with these radices.
+    #[must_use]
     pub fn new(radices: &'a [u64]) -> Self {
         Radix { radices }
     }
 
     /// The radices.
+    #[must_use]
     pub fn radices(&self) -> &'a [u64] {
         self.radices
     }
 
     /// The number of axes.
+    #[must_use]
     pub fn naxes(&self) -> usize {
         self.radices.len()
     }
 
-    /// The product of the radices. Refused: [`TooWide`](Refusal::TooWide), [`TooBig`](Refusal::TooBig).
+    /// The product of the radices.
+    ///
+    /// # Errors
+    ///
+    /// [`TooWide`](Refusal::TooWide), [`TooBig`](Refusal::TooBig).
     pub fn count(&self) -> Result<u64, Refusal> {
         sys::number(|count| sys::gudrenoss_shape_count(self.radices, count))
     }
 
-    /// The product of the radices before each axis. Refused: [`TooWide`](Refusal::TooWide), [`TooBig`](Refusal::TooBig).
+    /// The product of the radices before each axis.
+    ///
+    /// # Errors
+    ///
+    /// [`TooWide`](Refusal::TooWide), [`TooBig`](Refusal::TooBig).
     pub fn strides(&self) -> Result<Symbols, Refusal> {
         Symbols::filled(|strides, written| Refusal::judge(sys::gudrenoss_shape_strides(self.radices, strides, written)))
     }
 
-    /// The number of a list of digits. Refused: [`TooWide`](Refusal::TooWide), [`Shape`](Refusal::Shape),
-    /// [`Outside`](Refusal::Outside), [`TooBig`](Refusal::TooBig).
+    /// The number of a list of digits.
+    ///
+    /// # Errors
+    ///
+    /// [`TooWide`](Refusal::TooWide), [`Shape`](Refusal::Shape), [`Outside`](Refusal::Outside), [`TooBig`](Refusal::TooBig).
     pub fn linearize(&self, digits: &[u64]) -> Result<u64, Refusal> {
         sys::number(|number| sys::gudrenoss_shape_linearize(self.radices, digits, number))
     }
 
-    /// The digits of a number. Refused: [`TooWide`](Refusal::TooWide), [`TooBig`](Refusal::TooBig),
-    /// [`NoSuchRank`](Refusal::NoSuchRank).
+    /// The digits of a number.
+    ///
+    /// # Errors
+    ///
+    /// [`TooWide`](Refusal::TooWide), [`TooBig`](Refusal::TooBig), [`NoSuchRank`](Refusal::NoSuchRank).
     pub fn delinearize(&self, linear: u64) -> Result<Symbols, Refusal> {
         Symbols::filled(|digits, written| Refusal::judge(sys::gudrenoss_shape_delinearize(self.radices, linear, digits, written)))
     }
 
-    /// The sum of the strides of the axes in a set. Refused: [`TooWide`](Refusal::TooWide), [`Outside`](Refusal::Outside),
-    /// [`TooBig`](Refusal::TooBig).
+    /// The sum of the strides of the axes in a set.
+    ///
+    /// # Errors
+    ///
+    /// [`TooWide`](Refusal::TooWide), [`Outside`](Refusal::Outside), [`TooBig`](Refusal::TooBig).
     pub fn corner_offset(&self, corner: Combination) -> Result<u64, Refusal> {
         sys::number(|offset| sys::gudrenoss_shape_corner(self.radices, corner.bits(), offset))
     }
@@ -81,8 +101,11 @@ pub struct Word {
 }
 
 impl Word {
-    /// The word with these symbols. Refused: [`TooWide`](Refusal::TooWide), [`Outside`](Refusal::Outside),
-    /// [`TooBig`](Refusal::TooBig).
+    /// The word with these symbols.
+    ///
+    /// # Errors
+    ///
+    /// [`TooWide`](Refusal::TooWide), [`Outside`](Refusal::Outside), [`TooBig`](Refusal::TooBig).
     pub fn new(radix: u64, symbols: &[u64]) -> Result<Self, Refusal> {
         Self::made(radix, |degree, rank| {
             sys::gudrenoss_digits_from_symbols(radix, symbols, degree, rank)
@@ -90,31 +113,43 @@ impl Word {
     }
 
     /// The word with this degree and rank. It is not judged here.
+    #[must_use]
     pub fn from_rank(radix: u64, degree: u64, rank: u64) -> Self {
         Word { radix, degree, rank }
     }
 
-    /// How many words there are: radix^degree. Refused: [`TooWide`](Refusal::TooWide), [`TooBig`](Refusal::TooBig).
+    /// How many words there are: radix^degree.
+    ///
+    /// # Errors
+    ///
+    /// [`TooWide`](Refusal::TooWide), [`TooBig`](Refusal::TooBig).
     pub fn count(radix: u64, degree: u64) -> Result<u64, Refusal> {
         sys::number(|count| sys::gudrenoss_digits_count(radix, degree, count))
     }
 
     /// The radix.
+    #[must_use]
     pub fn radix(self) -> u64 {
         self.radix
     }
 
     /// The number of digits.
+    #[must_use]
     pub fn degree(self) -> u64 {
         self.degree
     }
 
     /// The rank: the sum of the symbol at each position p times radix^p.
+    #[must_use]
     pub fn rank(self) -> u64 {
         self.rank
     }
 
-    /// The symbols. Refused: the word's checks.
+    /// The symbols.
+    ///
+    /// # Errors
+    ///
+    /// The word's checks.
     pub fn symbols(self) -> Result<Symbols, Refusal> {
         Symbols::filled(|symbols, written| {
             Refusal::judge(sys::gudrenoss_digits_symbols(
@@ -127,23 +162,38 @@ impl Word {
         })
     }
 
-    /// The symbol at a position. Refused: the word's checks, [`Outside`](Refusal::Outside).
+    /// The symbol at a position.
+    ///
+    /// # Errors
+    ///
+    /// The word's checks, [`Outside`](Refusal::Outside).
     pub fn symbol(self, position: u64) -> Result<u64, Refusal> {
         sys::number(|symbol| sys::gudrenoss_digits_symbol(self.radix, self.degree, self.rank, position, symbol))
     }
 
-    /// How often a symbol occurs. Refused: the word's checks.
+    /// How often a symbol occurs.
+    ///
+    /// # Errors
+    ///
+    /// The word's checks.
     pub fn multiplicity(self, symbol: u64) -> Result<u64, Refusal> {
         sys::number(|often| sys::gudrenoss_digits_multiplicity(self.radix, self.degree, self.rank, symbol, often))
     }
 
-    /// The product of the factorials of the multiplicities. Refused: the word's checks, [`TooBig`](Refusal::TooBig).
+    /// The product of the factorials of the multiplicities.
+    ///
+    /// # Errors
+    ///
+    /// The word's checks, [`TooBig`](Refusal::TooBig).
     pub fn stabilizer(self) -> Result<u64, Refusal> {
         sys::number(|stabilizer| sys::gudrenoss_digits_stabilizer(self.radix, self.degree, self.rank, stabilizer))
     }
 
-    /// The two words joined, this one's digits lowest. Refused: the checks of both words, [`Shape`](Refusal::Shape),
-    /// [`TooWide`](Refusal::TooWide), [`TooBig`](Refusal::TooBig).
+    /// The two words joined, this one's digits lowest.
+    ///
+    /// # Errors
+    ///
+    /// The checks of both words, [`Shape`](Refusal::Shape), [`TooWide`](Refusal::TooWide), [`TooBig`](Refusal::TooBig).
     pub fn concat(self, other: Self) -> Result<Self, Refusal> {
         Self::made(self.radix, |degree, rank| {
             sys::gudrenoss_digits_concat(
@@ -159,7 +209,11 @@ impl Word {
         })
     }
 
-    /// The symbol at a position, and the word without it. Refused: the word's checks, [`Outside`](Refusal::Outside).
+    /// The symbol at a position, and the word without it.
+    ///
+    /// # Errors
+    ///
+    /// The word's checks, [`Outside`](Refusal::Outside).
     pub fn deletion(self, position: u64) -> Result<(u64, Self), Refusal> {
         let mut symbol = 0;
         let rest =

@@ -15,38 +15,54 @@ pub struct Combination(u64);
 
 impl Combination {
     /// The set whose members are the ones of `bits`.
+    #[must_use]
     pub fn from_bits(bits: u64) -> Self {
         Combination(bits)
     }
 
     /// The members as bits.
+    #[must_use]
     pub fn bits(self) -> u64 {
         self.0
     }
 
     /// Whether `index` is a member; from 64 up it is not.
+    #[must_use]
     pub fn contains(self, index: u64) -> bool {
         let mut contains = false;
         let _ = sys::gudrenoss_set_contains(self.0, index, &mut contains);
         contains
     }
 
-    /// The set with `index`. Refused: [`Outside`](Refusal::Outside) above 63, [`Repeated`](Refusal::Repeated) if it is a member.
+    /// The set with `index`.
+    ///
+    /// # Errors
+    ///
+    /// [`Outside`](Refusal::Outside) above 63, [`Repeated`](Refusal::Repeated) if it is a member.
     pub fn inserted(self, index: u64) -> Result<Self, Refusal> {
         sys::number(|with| sys::gudrenoss_set_insert(self.0, index, with)).map(Combination)
     }
 
-    /// How many members are below the member `index`. Refused: [`Outside`](Refusal::Outside) if it is not a member.
+    /// How many members are below the member `index`.
+    ///
+    /// # Errors
+    ///
+    /// [`Outside`](Refusal::Outside) if it is not a member.
     pub fn position_of(self, index: u64) -> Result<u64, Refusal> {
         sys::number(|position| sys::gudrenoss_set_position(self.0, index, position))
     }
 
-    /// The members at the given positions. Refused: [`Outside`](Refusal::Outside) if a position is not below the number of members.
+    /// The members at the given positions.
+    ///
+    /// # Errors
+    ///
+    /// [`Outside`](Refusal::Outside) if a position is not below the number of members.
     pub fn select(self, positions: Combination) -> Result<Self, Refusal> {
         sys::number(|selected| sys::gudrenoss_set_select(self.0, positions.0, selected)).map(Combination)
     }
 
     /// How many sets of as many members are earlier.
+    #[must_use]
     pub fn rank(self) -> u64 {
         MonoIndex::from(self).rank()
     }

@@ -18,45 +18,67 @@ pub struct Composition {
 }
 
 impl Composition {
-    /// The list with these entries. Refused: [`TooWide`](Refusal::TooWide).
+    /// The list with these entries.
+    ///
+    /// # Errors
+    ///
+    /// [`TooWide`](Refusal::TooWide).
     pub fn new(parts: &[u64]) -> Result<Self, Refusal> {
         sys::number(|rank| sys::gudrenoss_exponents_rank(parts, rank)).map(|_| Composition {
             parts: Symbols::copied(parts),
         })
     }
 
-    /// The list of `nparts` entries of a word in any order. Refused: [`TooWide`](Refusal::TooWide), [`Outside`](Refusal::Outside).
+    /// The list of `nparts` entries of a word in any order.
+    ///
+    /// # Errors
+    ///
+    /// [`TooWide`](Refusal::TooWide), [`Outside`](Refusal::Outside).
     pub fn from_word(nparts: u64, word: &[u64]) -> Result<Self, Refusal> {
         Self::filled(|entries, written| sys::gudrenoss_exponents_from_word(nparts, word, entries, written))
     }
 
-    /// The list of `nparts` entries and sum `degree` at a rank. Refused: [`TooWide`](Refusal::TooWide),
-    /// [`NoSuchRank`](Refusal::NoSuchRank).
+    /// The list of `nparts` entries and sum `degree` at a rank.
+    ///
+    /// # Errors
+    ///
+    /// [`TooWide`](Refusal::TooWide), [`NoSuchRank`](Refusal::NoSuchRank).
     pub fn from_rank(nparts: u64, degree: u64, rank: u64) -> Result<Self, Refusal> {
         Self::filled(|entries, written| sys::gudrenoss_exponents_from_rank(nparts, degree, rank, entries, written))
     }
 
     /// The entries.
+    #[must_use]
     pub fn parts(&self) -> &[u64] {
         &self.parts
     }
 
     /// The number of entries.
+    #[must_use]
     pub fn nparts(&self) -> usize {
         self.parts.len()
     }
 
     /// The sum of the entries.
+    #[must_use]
     pub fn degree(&self) -> u64 {
         self.parts.iter().sum()
     }
 
-    /// The word: each symbol as often as its entry says. Refused: [`TooWide`](Refusal::TooWide), which no list made here is.
+    /// The word: each symbol as often as its entry says.
+    ///
+    /// # Errors
+    ///
+    /// [`TooWide`](Refusal::TooWide), which no list made here is.
     pub fn word(&self) -> Result<Symbols, Refusal> {
         Symbols::filled(|word, written| Refusal::judge(sys::gudrenoss_exponents_word(&self.parts, word, written)))
     }
 
-    /// The rank of the word. Refused: [`TooWide`](Refusal::TooWide), which no list made here is.
+    /// The rank of the word.
+    ///
+    /// # Errors
+    ///
+    /// [`TooWide`](Refusal::TooWide), which no list made here is.
     pub fn rank(&self) -> Result<u64, Refusal> {
         sys::number(|rank| sys::gudrenoss_exponents_rank(&self.parts, rank))
     }
@@ -69,7 +91,11 @@ impl Composition {
 
 impl Add for &Composition {
     type Output = Result<Composition, Refusal>;
-    /// The sum, which is the product of the terms. Refused: [`Shape`](Refusal::Shape), [`TooWide`](Refusal::TooWide).
+    /// The sum, which is the product of the terms.
+    ///
+    /// # Errors
+    ///
+    /// [`Shape`](Refusal::Shape), [`TooWide`](Refusal::TooWide).
     fn add(self, other: &Composition) -> Result<Composition, Refusal> {
         Composition::filled(|entries, written| sys::gudrenoss_exponents_add(&self.parts, &other.parts, entries, written))
     }

@@ -16,7 +16,13 @@ impl Repetition {
         self == Repetition::Allowed
     }
 
-    /// How many words have `degree` symbols below `nsymbols`. Refused: [`TooWide`](Refusal::TooWide).
+    /// How many words have `degree` symbols below `nsymbols`.
+    ///
+    /// # Errors
+    ///
+    /// [`TooWide`](Refusal::TooWide).
+    ///
+    /// # Examples
     ///
     /// ```
     /// use gudrenoss::{Refusal, Repetition};
@@ -27,13 +33,22 @@ impl Repetition {
         sys::number(|count| sys::gudrenoss_count(self.allowed(), nsymbols, degree, count))
     }
 
-    /// The rank of a word: how many words of the family and length are earlier. Refused: [`TooWide`](Refusal::TooWide),
-    /// [`NotMonotone`](Refusal::NotMonotone).
+    /// The rank of a word: how many words of the family and length are earlier.
+    ///
+    /// # Errors
+    ///
+    /// [`TooWide`](Refusal::TooWide), [`NotMonotone`](Refusal::NotMonotone).
     pub fn rank(self, word: &[u64]) -> Result<u64, Refusal> {
         sys::number(|rank| sys::gudrenoss_rank(self.allowed(), word, rank))
     }
 
-    /// The word of a rank. Refused: [`TooWide`](Refusal::TooWide), [`NoSuchRank`](Refusal::NoSuchRank).
+    /// The word of a rank.
+    ///
+    /// # Errors
+    ///
+    /// [`TooWide`](Refusal::TooWide), [`NoSuchRank`](Refusal::NoSuchRank).
+    ///
+    /// # Examples
     ///
     /// ```
     /// use gudrenoss::{Refusal, Repetition};
@@ -57,7 +72,13 @@ pub struct MonoIndex {
 }
 
 impl MonoIndex {
-    /// The index of a word. Refused: [`TooWide`](Refusal::TooWide), [`NotMonotone`](Refusal::NotMonotone).
+    /// The index of a word.
+    ///
+    /// # Errors
+    ///
+    /// [`TooWide`](Refusal::TooWide), [`NotMonotone`](Refusal::NotMonotone).
+    ///
+    /// # Examples
     ///
     /// ```
     /// use gudrenoss::{MonoIndex, Repetition};
@@ -71,6 +92,7 @@ impl MonoIndex {
     }
 
     /// The index with these bits.
+    #[must_use]
     pub fn from_bits(repetition: Repetition, bits: u64) -> Self {
         MonoIndex {
             repetition,
@@ -78,38 +100,51 @@ impl MonoIndex {
         }
     }
 
-    /// The index of a word in any order, with the sign of sorting it. Refused: [`TooWide`](Refusal::TooWide),
-    /// [`Repeated`](Refusal::Repeated).
+    /// The index of a word in any order, with the sign of sorting it.
+    ///
+    /// # Errors
+    ///
+    /// [`TooWide`](Refusal::TooWide), [`Repeated`](Refusal::Repeated).
     pub fn from_word(repetition: Repetition, word: &[u64]) -> Result<(Sign, Self), Refusal> {
         Self::signed(repetition, |minus, bits| {
             sys::gudrenoss_canonicalise(repetition.allowed(), word, minus, bits)
         })
     }
 
-    /// The index of a degree and rank, where no alphabet is named. Refused: [`TooWide`](Refusal::TooWide),
-    /// [`NoSuchRank`](Refusal::NoSuchRank).
+    /// The index of a degree and rank, where no alphabet is named.
+    ///
+    /// # Errors
+    ///
+    /// [`TooWide`](Refusal::TooWide), [`NoSuchRank`](Refusal::NoSuchRank).
     pub fn from_rank(repetition: Repetition, degree: u64, rank: u64) -> Result<Self, Refusal> {
         sys::number(|bits| sys::gudrenoss_unrank_any(repetition.allowed(), degree, rank, bits))
             .map(|bits| MonoIndex::from_bits(repetition, bits))
     }
 
-    /// The index of a degree and rank over `nsymbols`. Refused: [`TooWide`](Refusal::TooWide), [`NoSuchRank`](Refusal::NoSuchRank).
+    /// The index of a degree and rank over `nsymbols`.
+    ///
+    /// # Errors
+    ///
+    /// [`TooWide`](Refusal::TooWide), [`NoSuchRank`](Refusal::NoSuchRank).
     pub fn from_rank_over(repetition: Repetition, nsymbols: u64, degree: u64, rank: u64) -> Result<Self, Refusal> {
         sys::number(|bits| sys::gudrenoss_unrank_over(repetition.allowed(), nsymbols, degree, rank, bits))
             .map(|bits| MonoIndex::from_bits(repetition, bits))
     }
 
     /// Its family.
+    #[must_use]
     pub fn repetition(self) -> Repetition {
         self.repetition
     }
 
     /// Its bits: one for each shifted symbol.
+    #[must_use]
     pub fn shifted_bits(self) -> u64 {
         self.shifted
     }
 
     /// How many symbols its word has.
+    #[must_use]
     pub fn degree(self) -> u64 {
         let mut degree = 0;
         let _ = sys::gudrenoss_degree(self.allowed(), self.shifted, &mut degree);
@@ -117,35 +152,53 @@ impl MonoIndex {
     }
 
     /// Its word.
+    #[must_use]
     pub fn word(self) -> Symbols {
         Symbols::filled(|word, written| Refusal::judge(sys::gudrenoss_unpack(self.allowed(), self.shifted, word, written)))
             .expect("an index has at most 64 symbols")
     }
 
-    /// The symbol at a position. Refused: [`Outside`](Refusal::Outside).
+    /// The symbol at a position.
+    ///
+    /// # Errors
+    ///
+    /// [`Outside`](Refusal::Outside).
     pub fn symbol(self, position: u64) -> Result<u64, Refusal> {
         sys::number(|symbol| sys::gudrenoss_symbol(self.allowed(), self.shifted, position, symbol))
     }
 
     /// Its rank: how many words of the family and degree are earlier.
+    #[must_use]
     pub fn rank(self) -> u64 {
         let mut rank = 0;
         let _ = sys::gudrenoss_rank_of(self.allowed(), self.shifted, &mut rank);
         rank
     }
 
-    /// The product of the factorials of the multiplicities. Refused: [`TooBig`](Refusal::TooBig).
+    /// The product of the factorials of the multiplicities.
+    ///
+    /// # Errors
+    ///
+    /// [`TooBig`](Refusal::TooBig).
     pub fn stabilizer(self) -> Result<u64, Refusal> {
         sys::number(|stabilizer| sys::gudrenoss_stabilizer(self.allowed(), self.shifted, stabilizer))
     }
 
-    /// The next index of the family and degree in 64 bits. Refused: [`Last`](Refusal::Last).
+    /// The next index of the family and degree in 64 bits.
+    ///
+    /// # Errors
+    ///
+    /// [`Last`](Refusal::Last).
     pub fn colex_successor(self) -> Result<Self, Refusal> {
         sys::number(|next| sys::gudrenoss_successor(self.allowed(), self.shifted, next))
             .map(|bits| MonoIndex::from_bits(self.repetition, bits))
     }
 
-    /// All indices of a family and degree over `nsymbols`, in order of rank. Refused: [`TooWide`](Refusal::TooWide).
+    /// All indices of a family and degree over `nsymbols`, in order of rank.
+    ///
+    /// # Errors
+    ///
+    /// [`TooWide`](Refusal::TooWide).
     pub fn all(repetition: Repetition, nsymbols: u64, degree: u64) -> Result<MonoIndices, Refusal> {
         let (mut standing, mut at, mut remaining) = (false, 0, 0);
         Refusal::judge(sys::gudrenoss_walk_start(
@@ -164,8 +217,13 @@ impl MonoIndex {
         })
     }
 
-    /// The two words joined into one sorted word, with the sign of that. Refused: [`Family`](Refusal::Family),
-    /// [`Repeated`](Refusal::Repeated), [`TooWide`](Refusal::TooWide).
+    /// The two words joined into one sorted word, with the sign of that.
+    ///
+    /// # Errors
+    ///
+    /// [`Family`](Refusal::Family), [`Repeated`](Refusal::Repeated), [`TooWide`](Refusal::TooWide).
+    ///
+    /// # Examples
     ///
     /// ```
     /// use gudrenoss::{MonoIndex, Repetition, Sign};
@@ -179,7 +237,11 @@ impl MonoIndex {
         })
     }
 
-    /// The word without the symbol at a position: the sign, the symbol, and what is left. Refused: [`Outside`](Refusal::Outside).
+    /// The word without the symbol at a position: the sign, the symbol, and what is left.
+    ///
+    /// # Errors
+    ///
+    /// [`Outside`](Refusal::Outside).
     pub fn deletion(self, position: u64) -> Result<(Sign, u64, Self), Refusal> {
         let (mut minus, mut symbol, mut rest) = (false, 0, 0);
         Refusal::judge(sys::gudrenoss_delete(
@@ -193,7 +255,10 @@ impl MonoIndex {
         Ok((Sign::from_minus(minus), symbol, MonoIndex::from_bits(self.repetition, rest)))
     }
 
-    /// The symbols below `nsymbols` that the set does not have, with the sign of the set followed by them. Refused:
+    /// The symbols below `nsymbols` that the set does not have, with the sign of the set followed by them.
+    ///
+    /// # Errors
+    ///
     /// [`Family`](Refusal::Family), [`TooWide`](Refusal::TooWide), [`Outside`](Refusal::Outside).
     pub fn complement_signed(self, nsymbols: u64) -> Result<(Sign, Self), Refusal> {
         Self::signed(Repetition::Forbidden, |minus, rest| {
@@ -223,11 +288,16 @@ pub struct MonoIndices {
 
 impl MonoIndices {
     /// How many indices it has still to give.
+    #[must_use]
     pub fn remaining(&self) -> u64 {
         self.remaining
     }
 
-    /// The next index. Refused: [`Last`](Refusal::Last) when the walk is finished.
+    /// The next index.
+    ///
+    /// # Errors
+    ///
+    /// [`Last`](Refusal::Last) when the walk is finished.
     pub fn step(&mut self) -> Result<MonoIndex, Refusal> {
         let allowed = self.repetition.allowed();
         sys::number(|bits| sys::gudrenoss_walk_step(allowed, &mut self.standing, &mut self.at, &mut self.remaining, bits))

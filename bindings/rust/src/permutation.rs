@@ -18,6 +18,7 @@ pub struct Permutation(sys::Record);
 
 impl Permutation {
     /// The permutation with these entries. They are not judged here; of more than twenty only the number is kept.
+    #[must_use]
     pub fn new(entries: &[u64]) -> Self {
         let mut kept = [0; 20];
         kept.iter_mut().zip(entries).for_each(|(place, &entry)| *place = entry);
@@ -27,66 +28,97 @@ impl Permutation {
         })
     }
 
-    /// The permutation with these entries, judged. Refused: [`TooWide`](Refusal::TooWide),
-    /// [`NotAPermutation`](Refusal::NotAPermutation).
+    /// The permutation with these entries, judged.
+    ///
+    /// # Errors
+    ///
+    /// [`TooWide`](Refusal::TooWide), [`NotAPermutation`](Refusal::NotAPermutation).
     pub fn new_checked(entries: &[u64]) -> Result<Self, Refusal> {
         let p = Permutation::new(entries);
         p.sign().map(|_| p)
     }
 
-    /// The permutation of length `n` at a rank. Refused: [`TooWide`](Refusal::TooWide), [`NoSuchRank`](Refusal::NoSuchRank).
+    /// The permutation of length `n` at a rank.
+    ///
+    /// # Errors
+    ///
+    /// [`TooWide`](Refusal::TooWide), [`NoSuchRank`](Refusal::NoSuchRank).
     pub fn from_rank(n: u64, rank: u64) -> Result<Self, Refusal> {
         Self::given(n, |entries| sys::gudrenoss_permutation_unrank(n, rank, entries))
     }
 
     /// The number of entries.
+    #[must_use]
     pub fn len(&self) -> u64 {
         self.0.len
     }
 
     /// Whether it has no entries.
+    #[must_use]
     pub fn is_empty(&self) -> bool {
         self.0.len == 0
     }
 
     /// The entries, at most twenty.
+    #[must_use]
     pub fn parts(&self) -> &[u64] {
         &self.0.entries[..self.0.len.min(20) as usize]
     }
 
-    /// Where it sends `i`. Refused: [`TooWide`](Refusal::TooWide), [`NotAPermutation`](Refusal::NotAPermutation),
-    /// [`Outside`](Refusal::Outside).
+    /// Where it sends `i`.
+    ///
+    /// # Errors
+    ///
+    /// [`TooWide`](Refusal::TooWide), [`NotAPermutation`](Refusal::NotAPermutation), [`Outside`](Refusal::Outside).
     pub fn apply(&self, i: u64) -> Result<u64, Refusal> {
         sys::number(|entry| sys::gudrenoss_permutation_image(self.0, i, entry))
     }
 
-    /// The inverse. Refused: [`TooWide`](Refusal::TooWide), [`NotAPermutation`](Refusal::NotAPermutation).
+    /// The inverse.
+    ///
+    /// # Errors
+    ///
+    /// [`TooWide`](Refusal::TooWide), [`NotAPermutation`](Refusal::NotAPermutation).
     pub fn inverse(&self) -> Result<Self, Refusal> {
         Self::given(self.0.len, |entries| sys::gudrenoss_permutation_inverse(self.0, entries))
     }
 
-    /// This one after the other: it sends `i` to `self(other(i))`. Refused: [`TooWide`](Refusal::TooWide),
-    /// [`Shape`](Refusal::Shape), [`NotAPermutation`](Refusal::NotAPermutation).
+    /// This one after the other: it sends `i` to `self(other(i))`.
+    ///
+    /// # Errors
+    ///
+    /// [`TooWide`](Refusal::TooWide), [`Shape`](Refusal::Shape), [`NotAPermutation`](Refusal::NotAPermutation).
     pub fn compose(&self, other: &Self) -> Result<Self, Refusal> {
         Self::given(self.0.len, |entries| {
             sys::gudrenoss_permutation_compose(self.0, other.0, entries)
         })
     }
 
-    /// The sign of the number of inversions. Refused: [`TooWide`](Refusal::TooWide), [`NotAPermutation`](Refusal::NotAPermutation).
+    /// The sign of the number of inversions.
+    ///
+    /// # Errors
+    ///
+    /// [`TooWide`](Refusal::TooWide), [`NotAPermutation`](Refusal::NotAPermutation).
     pub fn sign(&self) -> Result<Sign, Refusal> {
         let mut minus = false;
         Refusal::judge(sys::gudrenoss_permutation_sign(self.0, &mut minus))?;
         Ok(Sign::from_minus(minus))
     }
 
-    /// The rank. Refused: [`TooWide`](Refusal::TooWide), [`NotAPermutation`](Refusal::NotAPermutation).
+    /// The rank.
+    ///
+    /// # Errors
+    ///
+    /// [`TooWide`](Refusal::TooWide), [`NotAPermutation`](Refusal::NotAPermutation).
     pub fn rank(&self) -> Result<u64, Refusal> {
         sys::number(|rank| sys::gudrenoss_permutation_rank(self.0, rank))
     }
 
-    /// The permutation of the next rank. Refused: [`TooWide`](Refusal::TooWide), [`NotAPermutation`](Refusal::NotAPermutation),
-    /// [`Last`](Refusal::Last).
+    /// The permutation of the next rank.
+    ///
+    /// # Errors
+    ///
+    /// [`TooWide`](Refusal::TooWide), [`NotAPermutation`](Refusal::NotAPermutation), [`Last`](Refusal::Last).
     pub fn successor(&self) -> Result<Self, Refusal> {
         Self::given(self.0.len, |entries| sys::gudrenoss_permutation_successor(self.0, entries))
     }

@@ -21,16 +21,19 @@ impl Sign {
     }
 
     /// Whether it is plus.
+    #[must_use]
     pub fn is_pos(self) -> bool {
         self == Sign::Pos
     }
 
     /// Whether it is minus.
+    #[must_use]
     pub fn is_neg(self) -> bool {
         self == Sign::Neg
     }
 
     /// 1 or -1.
+    #[must_use]
     pub fn as_i32(self) -> i32 {
         self as i32
     }
