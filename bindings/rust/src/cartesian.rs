@@ -12,13 +12,13 @@ use crate::{sys, Combination, Refusal, Symbols};
 /// # Ok::<(), gudrenoss::Refusal>(())
 /// ```
 #[derive(Debug, Clone, Copy, PartialEq, Eq, Hash)]
+#[must_use]
 pub struct Radix<'a> {
     radices: &'a [u64],
 }
 
 impl<'a> Radix<'a> {
     /// The shape with these radices.
-    #[must_use]
     pub fn new(radices: &'a [u64]) -> Self {
         Radix { radices }
     }
@@ -94,6 +94,7 @@ impl<'a> Radix<'a> {
 /// # Ok::<(), gudrenoss::Refusal>(())
 /// ```
 #[derive(Debug, Clone, Copy, PartialEq, Eq, Hash, Default)]
+#[must_use]
 pub struct Word {
     radix: u64,
     degree: u64,
@@ -113,7 +114,6 @@ impl Word {
     }
 
     /// The word with this degree and rank. It is not judged here.
-    #[must_use]
     pub fn from_rank(radix: u64, degree: u64, rank: u64) -> Self {
         Word { radix, degree, rank }
     }

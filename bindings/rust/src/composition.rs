@@ -1,4 +1,5 @@
 use crate::{sys, Refusal, Symbols};
+use core::fmt;
 use core::ops::Add;
 
 /// A list of exponents: entry e at symbol s stands for the multiset in which s occurs e times. It has at most 64 entries, of sum at
@@ -12,7 +13,8 @@ use core::ops::Add;
 /// assert_eq!((&term + &Composition::new(&[0, 3, 1])?)?.parts(), [1, 3, 3]);
 /// # Ok::<(), gudrenoss::Refusal>(())
 /// ```
-#[derive(Debug, Clone, Copy, PartialEq, Eq)]
+#[derive(Debug, Clone, Copy, PartialEq, Eq, Hash)]
+#[must_use]
 pub struct Composition {
     parts: Symbols,
 }
@@ -86,6 +88,12 @@ impl Composition {
     fn filled(call: impl FnOnce(&mut [u64], &mut u64) -> sys::Status) -> Result<Self, Refusal> {
         let parts = Symbols::filled(|entries, written| Refusal::judge(call(entries, written)))?;
         Ok(Composition { parts })
+    }
+}
+
+impl fmt::Display for Composition {
+    fn fmt(&self, f: &mut fmt::Formatter<'_>) -> fmt::Result {
+        self.parts.fmt(f)
     }
 }
 

@@ -37,13 +37,15 @@ mod composition;
 mod monotone;
 mod permutation;
 mod refusal;
+#[cfg(test)]
+mod rooms;
 mod sign;
 mod symbols;
 #[allow(unsafe_code)]
 mod sys;
 
 pub use cartesian::{Radix, Word};
-pub use combination::Combination;
+pub use combination::{Combination, Members};
 pub use composition::Composition;
 pub use monotone::{MonoIndex, MonoIndices, Repetition};
 pub use permutation::Permutation;

@@ -1,4 +1,5 @@
 use crate::{sys, Refusal, Sign, Symbols};
+use core::fmt;
 use core::iter::FusedIterator;
 
 /// The two families of words: those that strictly increase, which are subsets, and those that weakly increase, which are multisets.
@@ -9,6 +10,12 @@ pub enum Repetition {
     Forbidden,
     /// Symbols may repeat.
     Allowed,
+}
+
+impl fmt::Display for Repetition {
+    fn fmt(&self, f: &mut fmt::Formatter<'_>) -> fmt::Result {
+        f.write_str(if self.allowed() { "allowed" } else { "forbidden" })
+    }
 }
 
 impl Repetition {
@@ -66,6 +73,7 @@ impl Repetition {
 
 /// A word of a family as the bits of its shifted symbols. Every 64-bit number is an index of either family.
 #[derive(Debug, Clone, Copy, PartialEq, Eq, Hash, PartialOrd, Ord, Default)]
+#[must_use]
 pub struct MonoIndex {
     repetition: Repetition,
     shifted: u64,
@@ -92,7 +100,6 @@ impl MonoIndex {
     }
 
     /// The index with these bits.
-    #[must_use]
     pub fn from_bits(repetition: Repetition, bits: u64) -> Self {
         MonoIndex {
             repetition,
@@ -152,7 +159,6 @@ impl MonoIndex {
     }
 
     /// Its word.
-    #[must_use]
     pub fn word(self) -> Symbols {
         Symbols::filled(|word, written| Refusal::judge(sys::gudrenoss_unpack(self.allowed(), self.shifted, word, written)))
             .expect("an index has at most 64 symbols")
@@ -279,6 +285,7 @@ impl MonoIndex {
 
 /// A walk through all indices of a family and degree, in order of rank.
 #[derive(Debug, Clone)]
+#[must_use]
 pub struct MonoIndices {
     repetition: Repetition,
     standing: bool,

@@ -1,5 +1,7 @@
+use crate::symbols::listed;
 use crate::{sys, Refusal, Sign};
 use core::fmt;
+use core::hash::{Hash, Hasher};
 
 /// A permutation of at most twenty entries: it sends `i` to entry `i`. In order of rank the decreasing one is first and the identity
 /// last. Every call judges the entries that it is given: [`TooWide`](Refusal::TooWide) if there are more than twenty, and
@@ -14,11 +16,11 @@ use core::fmt;
 /// assert_eq!(Permutation::new(&[1, 1]).sign(), Err(Refusal::NotAPermutation));
 /// ```
 #[derive(Clone, Copy)]
+#[must_use]
 pub struct Permutation(sys::Record);
 
 impl Permutation {
     /// The permutation with these entries. They are not judged here; of more than twenty only the number is kept.
-    #[must_use]
     pub fn new(entries: &[u64]) -> Self {
         let mut kept = [0; 20];
         kept.iter_mut().zip(entries).for_each(|(place, &entry)| *place = entry);
@@ -137,6 +139,19 @@ impl PartialEq for Permutation {
 }
 
 impl Eq for Permutation {}
+
+impl Hash for Permutation {
+    fn hash<H: Hasher>(&self, state: &mut H) {
+        self.0.len.hash(state);
+        self.parts().hash(state);
+    }
+}
+
+impl fmt::Display for Permutation {
+    fn fmt(&self, f: &mut fmt::Formatter<'_>) -> fmt::Result {
+        listed(f, self.parts())
+    }
+}
 
 impl fmt::Debug for Permutation {
     fn fmt(&self, f: &mut fmt::Formatter<'_>) -> fmt::Result {

@@ -39,6 +39,7 @@ impl Refusal {
     /// assert_eq!(Refusal::from_parts(4, 0), Some(Refusal::Last));
     /// assert_eq!(Refusal::from_parts(4, 1), None);
     /// ```
+    #[must_use]
     pub fn from_parts(number: u64, at: u64) -> Option<Refusal> {
         let refusal = match number {
             1 => Refusal::TooWide,
@@ -57,6 +58,7 @@ impl Refusal {
     }
 
     /// Its number in `docs/RULES.md` and `include/gudrenoss.h`, from 1 to 10.
+    #[must_use]
     pub fn number(self) -> u64 {
         match self {
             Refusal::TooWide => 1,
@@ -73,6 +75,7 @@ impl Refusal {
     }
 
     /// The place that it tells, as `include/gudrenoss.h` gives it: 0 if it tells none.
+    #[must_use]
     pub fn at(self) -> u64 {
         match self {
             Refusal::NotMonotone { at } => at,

@@ -3,6 +3,7 @@ use core::ops::{Mul, Neg};
 
 /// The sign of a reordering: plus if its inversions are even in number.
 #[derive(Debug, Clone, Copy, PartialEq, Eq, Hash, Default)]
+#[must_use]
 pub enum Sign {
     /// Plus.
     #[default]

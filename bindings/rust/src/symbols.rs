@@ -1,8 +1,20 @@
-use core::fmt;
+use core::hash::{Hash, Hasher};
 use core::ops::Deref;
+use core::{array, fmt, iter, slice};
 
 /// A list of at most 64 numbers, held inline: a word, a list of digits, strides or exponents. It reads as a slice.
+///
+/// ```
+/// use gudrenoss::Repetition;
+///
+/// let word = Repetition::Allowed.word_from_rank(3, 2, 3)?;
+/// assert_eq!(word, [0, 2]);
+/// assert_eq!(word.into_iter().sum::<u64>(), 2);
+/// assert_eq!(word.to_string(), "0 2");
+/// # Ok::<(), gudrenoss::Refusal>(())
+/// ```
 #[derive(Clone, Copy)]
+#[must_use]
 pub struct Symbols {
     places: [u64; 64],
     len: usize,
@@ -34,6 +46,28 @@ impl Deref for Symbols {
     }
 }
 
+impl AsRef<[u64]> for Symbols {
+    fn as_ref(&self) -> &[u64] {
+        self
+    }
+}
+
+impl IntoIterator for Symbols {
+    type Item = u64;
+    type IntoIter = iter::Take<array::IntoIter<u64, 64>>;
+    fn into_iter(self) -> Self::IntoIter {
+        self.places.into_iter().take(self.len)
+    }
+}
+
+impl<'a> IntoIterator for &'a Symbols {
+    type Item = &'a u64;
+    type IntoIter = slice::Iter<'a, u64>;
+    fn into_iter(self) -> Self::IntoIter {
+        self.iter()
+    }
+}
+
 impl PartialEq for Symbols {
     fn eq(&self, other: &Self) -> bool {
         **self == **other
@@ -42,9 +76,27 @@ impl PartialEq for Symbols {
 
 impl Eq for Symbols {}
 
+impl Hash for Symbols {
+    fn hash<H: Hasher>(&self, state: &mut H) {
+        (**self).hash(state);
+    }
+}
+
 impl<const N: usize> PartialEq<[u64; N]> for Symbols {
     fn eq(&self, other: &[u64; N]) -> bool {
         **self == *other
+    }
+}
+
+impl PartialEq<[u64]> for Symbols {
+    fn eq(&self, other: &[u64]) -> bool {
+        **self == *other
+    }
+}
+
+impl PartialEq<&[u64]> for Symbols {
+    fn eq(&self, other: &&[u64]) -> bool {
+        **self == **other
     }
 }
 
@@ -52,4 +104,18 @@ impl fmt::Debug for Symbols {
     fn fmt(&self, f: &mut fmt::Formatter<'_>) -> fmt::Result {
         f.debug_list().entries(self.iter()).finish()
     }
+}
+
+impl fmt::Display for Symbols {
+    fn fmt(&self, f: &mut fmt::Formatter<'_>) -> fmt::Result {
+        listed(f, self)
+    }
+}
+
+/// Writes numbers with a space between two.
+pub(crate) fn listed(f: &mut fmt::Formatter<'_>, numbers: &[u64]) -> fmt::Result {
+    for (i, n) in numbers.iter().enumerate() {
+        write!(f, "{}{n}", if i == 0 { "" } else { " " })?;
+    }
+    Ok(())
 }

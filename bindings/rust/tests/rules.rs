@@ -148,6 +148,37 @@ fn sets() {
 }
 
 #[test]
+fn members_and_texts() {
+    let odd = Combination::from_bits(42);
+    assert_eq!(odd.iter().len(), 3);
+    assert_eq!(odd.into_iter().collect::<Vec<_>>(), [1, 3, 5]);
+    assert_eq!(Combination::from_bits(HIGH_BIT | 1).iter().collect::<Vec<_>>(), [0, 63]);
+    assert_eq!(Combination::from_bits(TOP).iter().count(), 64);
+    assert_eq!(Combination::from_bits(0).iter().next(), None);
+    assert_eq!(
+        format!("{odd} {} {}", Combination::default(), Allowed),
+        "{1, 3, 5} {} allowed"
+    );
+    let word = multiset(25).word();
+    assert_eq!(
+        (&word).into_iter().copied().collect::<Vec<_>>(),
+        word.into_iter().collect::<Vec<_>>()
+    );
+    let slice: &[u64] = &[0, 2, 2];
+    assert!(word == [0, 2, 2] && word == *slice && word == slice && word != slice[1..]);
+    assert_eq!(
+        format!("{word} {} {}", Permutation::new(&[1, 0]), Composition::new(&[3, 0]).unwrap()),
+        "0 2 2 1 0 3 0"
+    );
+    let words: std::collections::HashSet<_> = [multiset(25).word(), word, set(25).word()].into_iter().collect();
+    assert_eq!(words.len(), 2);
+    let orders: std::collections::HashSet<_> = [Permutation::new(&[1, 0]), Permutation::from_rank(2, 0).unwrap()]
+        .into_iter()
+        .collect();
+    assert_eq!(orders.len(), 1);
+}
+
+#[test]
 fn permutations() {
     let p = Permutation::new(&[2, 0, 1]);
     let wide = Permutation::new(&[0; 21]);
