@@ -331,6 +331,8 @@ static void test_index(void)
     number(gudrenoss_successor(forbidden, 3, X), 5);
     number(gudrenoss_successor(allowed, 12, X), 17);
     number(gudrenoss_successor(forbidden, high_bit >> 1, X), high_bit);
+    lent.number_0 = 3; /* a value that is passed may be that of the place of the result */
+    number(gudrenoss_successor(forbidden, lent.number_0, X), 5);
     refused(gudrenoss_successor(forbidden, high_bit, X), LAST);
     refused(gudrenoss_successor(forbidden, 0, X), LAST);
     refused(gudrenoss_successor(allowed, top, X), LAST);
