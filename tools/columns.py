@@ -3,6 +3,7 @@
 
 Run it at the repository's root: python3 tools/columns.py. Run again, it changes nothing; nor does `rt fmt` after it.
 """
+import sys
 from math import comb
 
 ROWS = 64
@@ -33,5 +34,9 @@ ghost use Rattle.pascal.specs.Row.{{entry}};
         f.write(text + "".join(column(k) for k in range(first, last + 1)))
 
 
+if sys.argv[1:]:
+    asked = sys.argv[1:] in (["-h"], ["--help"])
+    print(__doc__.strip(), file=sys.stdout if asked else sys.stderr)
+    sys.exit(0 if asked else 2)
 crate("columns_low", 1, 16)
 crate("columns_high", 17, 32)

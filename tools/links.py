@@ -3,6 +3,8 @@
 
 Run it at the repository's root: python3 tools/links.py. Run again, it changes nothing; nor does `rt fmt` after it.
 """
+import sys
+
 LINKS = 32
 
 
@@ -22,6 +24,10 @@ def link(i):
 """
 
 
+if sys.argv[1:]:
+    asked = sys.argv[1:] in (["-h"], ["--help"])
+    print(__doc__.strip(), file=sys.stdout if asked else sys.stderr)
+    sys.exit(0 if asked else 2)
 text = f"""// What the numbers of a set weigh, from each of the first {LINKS} positions up (document 01, "Terms and their order"). Made by tools/links.py.
 // A link weighs the lowest number by the column of its own position, and hands the rest of the set and the sum so far to the next.
 ghost use mathlib.Core.Path.{{_≡_}};

@@ -569,6 +569,11 @@ def test():
 
 
 def main():
+    if sys.argv[1:] in (["-h"], ["--help"]):
+        return print(__doc__.strip())
+    if sys.argv[1:] not in (["test"], ["ask"], ["terms"]):
+        print(__doc__.strip(), file=sys.stderr)
+        sys.exit(2)
     if sys.argv[1] == "test":
         return test()
     answer = {"ask": ask, "terms": terms}[sys.argv[1]]
