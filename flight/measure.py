@@ -1,7 +1,8 @@
 #!/usr/bin/env python3
-"""Reads the disassembly of the static library and says, for each export, how deep its stack goes and what it may call.
+"""Reads the disassembly of the static library and says, for each export, how deep its stack goes, how many functions it may call,
+and how many instructions that only trap are in it and in those.
 
-    measure.py ARCHIVE
+    flight/measure.py ARCHIVE
 
 The depth is a bound, not a reading: each function's frame (what it pushes and takes off the stack pointer), the return address of each call,
 and the deepest callee. It refuses to answer, with status 1, where that would not be a bound: an indirect call, a cycle of calls, a stack
@@ -14,6 +15,9 @@ import sys
 # Called from the archive, and not part of it. They are leaves of the C library; a frame of theirs is not counted.
 OUTSIDE = {"memcpy", "memset", "memmove", "memcmp"}
 
+# Instructions that do nothing but end the program.
+TRAPS = {"ud0", "ud1", "ud2", "int3", "hlt"}
+
 
 def output(*command):
     return subprocess.run(command, check=True, capture_output=True, text=True).stdout
@@ -24,6 +28,7 @@ class Function:
         self.name = name
         self.frame = 0
         self.size = 0
+        self.traps = 0
         self.calls = set()
         self.tails = set()
 
@@ -51,6 +56,7 @@ def read(archive):
             continue
         at, op, args = int(code.group(1), 16), code.group(2), code.group(3)
         here.size = max(here.size, at + 1)
+        here.traps += op in TRAPS
         pending = None
         if op in ("call", "callq"):
             if args.startswith("*"):
@@ -112,6 +118,12 @@ def sections(archive):
 
 
 def main():
+    if sys.argv[1:] in (["-h"], ["--help"]):
+        print(__doc__.strip())
+        return
+    if len(sys.argv) != 2:
+        print(__doc__.strip(), file=sys.stderr)
+        sys.exit(2)
     archive = sys.argv[1]
     functions = read(archive)
     undefined = sorted(line.split()[-1] for line in output("nm", "-u", archive).splitlines() if " U " in line)
@@ -123,10 +135,12 @@ def main():
     print(f"code bytes\t{code}")
     print(f"constant bytes\t{constants}")
     print(f"writable bytes\t{writable}")
+    print(f"trap instructions\t{sum(f.traps for f in functions.values())}")
     print(f"asked of the C library\t{' '.join(undefined) or 'nothing'}")
     for name in sorted(functions):
         if name.startswith("gudrenoss_"):
-            print(f"{name}\t{deepest(functions, name)}\t{len(reached(functions, name, set())) - 1}")
+            inside = reached(functions, name, set())
+            print(f"{name}\t{deepest(functions, name)}\t{len(inside) - 1}\t{sum(functions[f].traps for f in inside)}")
     if writable:
         sys.exit("measure: the archive has data that can be written")
 
