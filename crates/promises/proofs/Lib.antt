@@ -5,3 +5,4 @@ pub mod Records
 pub mod Alphabets
 pub mod Signed
 pub mod Checked
+pub mod Indices
