@@ -6,3 +6,4 @@ pub mod Alphabets
 pub mod Signed
 pub mod Checked
 pub mod Indices
+pub mod Orders
