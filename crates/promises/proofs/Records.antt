@@ -19,8 +19,7 @@ use Rattle.words.specs.Word.{Word, shiftedAlphabet, count}
 use Rattle.words.specs.Rank.{rankOf}
 use Rattle.words.specs.Unrank.{unrankOf}
 use Rattle.words.specs.Next.{first, next}
-use Rattle.pascal.proofs.Choose.{choose-enough}
-use Rattle.words.proofs.Rank.{rank-below-count}
+use Rattle.words.proofs.Rank.{word-short}
 use Rattle.words.proofs.Next.{next-long, next-monotone}
 use Rattle.words.proofs.Ends.{first-is-a-word}
 use Rattle.bits.specs.Member.{reaches}
@@ -61,8 +60,7 @@ by-word x a = taken-accepted x (gives (rankOf (x .family) (wordOf x))) a
 pub rank-of-an-index-is-that-of-its-word : (x : Index) → Accepted x → rankOfSays x ≡ rankSays (x .family) (wordOf x)
 rank-of-an-index-is-that-of-its-word x a =
     let h : Word (x .family) (x .alphabet) (length (wordOf x)) (wordOf x) = accepted-is-a-word x .0 a .1 in
-    let k : length (wordOf x) ≤ top x =
-    choose-enough (top x) (length (wordOf x)) (omega (arith, rank-below-count (x .family) (x .alphabet) (length (wordOf x)) (wordOf x) h)) in
+    let k : length (wordOf x) ≤ top x = word-short (x .family) (x .alphabet) (length (wordOf x)) (wordOf x) h in
     by-word x a
     ∙ sym (checked-gives (x .family) (wordOf x) (rankOf (x .family) (wordOf x)) (word-ranked (x .family) (x .alphabet) (length (wordOf x)) (wordOf x) h (omega (arith, a .narrow)) (a .narrow)))
 

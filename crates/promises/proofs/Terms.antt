@@ -34,11 +34,10 @@ use Rattle.words.specs.Next.{next, last}
 use Rattle.words.specs.Bits.{bitsOf, setBits}
 use Rattle.bits.specs.Member.{reaches}
 use Rattle.bits.proofs.Member.{reaches-not}
-use Rattle.pascal.proofs.Choose.{choose-enough}
 use Rattle.words.proofs.Bits.{bits-of-set}
 use Rattle.words.proofs.Ends.{last-is-a-word, last-has-nothing-after, last-bits}
 use Rattle.words.proofs.Colex.{to-colex, from-colex}
-use Rattle.words.proofs.Rank.{rank-rises, rank-below-count, before-of-rank}
+use Rattle.words.proofs.Rank.{rank-rises, rank-below-count, word-short, before-of-rank}
 use Rattle.words.proofs.Unrank.{unrank-long, unrank-monotone, unrank-is-a-word, rank-of-unrank, unrank-of-rank, word-by-rank}
 use Rattle.words.proofs.Positions.{shifted-below}
 use Rattle.words.proofs.Counted.{count-is-how-many-words, rank-is-how-many-earlier}
@@ -237,7 +236,7 @@ successor-refuses-exactly-at-the-top-bits x a = (
     word = accepted-is-a-word x .0 a .1
 
     bits : bitsOf (shifted F (last F n k)) ≡ (2 ^ k - 1) * 2 ^ (top x - k)
-    bits = last-bits F n k (choose-enough (shiftedAlphabet F n k) k (omega (arith, rank-below-count F n k (wordOf x) word)))
+    bits = last-bits F n k (word-short F n k (wordOf x) word)
 
     own : bitsOf (shifted F (wordOf x)) ≡ x .bits
     own = ap bitsOf (shifted-word x) ∙ bits-of-set (x .bits)

@@ -8,14 +8,14 @@
 --   taken-gives, both-gives    what gives an answer was accepted
 --   took, took-both    what the code's verdict makes of an answer is what taking the record makes of it
 --   verdict-accepted, both-verdict-accepted    a verdict that accepts is of an accepted record
---   few-bits, wide-by, narrow-alphabet    as the code counts: k ones are at most 64, the width by that k, and an alphabet that fits
+--   few-bits, wide-alphabet, narrow-alphabet    as the code counts: 64 bits have at most 64 ones, and the width of a record is that of its alphabet or more
 use mathlib.Core.Path.{_≡_, refl, sym, ap, subst, _∙_}
 use mathlib.Core.Bool.{Bool, true, false}
 use mathlib.Core.Logic.{_↔_}
 use mathlib.Core.List.{List}
 use Prim.Native.Nat.{ℕ, _^_, _≤_, _<_}
 use native.Mathlib.Omega.{arith}
-use borrow.Author.Tests.{ltb-false, le-ltb}
+use borrow.Author.Tests.{ltb-false, lt-ltb, le-ltb}
 use lib.Count.{ones-le}
 use lib.Dec.{ltb}
 use lib.ListN.{length}
@@ -138,8 +138,9 @@ verdict-accepted x v e f = go (tooWide x) refl (outside x) refl (sym e ∙ f)
 pub few-bits : (a k : ℕ) → a < 2 ^ 64 → k ≡ length (setBits a) → k ≤ 64
 few-bits a k h e = omega (arith, e ∙ set-bits-long a, ones-le 64 a h)
 
-pub wide-by : (x : Index) (k : ℕ) (t : Bool) → k ≡ length (setBits (x .bits)) → t ≡ ltb 64 (shiftedAlphabet (x .family) (x .alphabet) k) → t ≡ tooWide x
-wide-by x k t e f = f ∙ ap (λ (j : ℕ). ltb 64 (shiftedAlphabet (x .family) (x .alphabet) j)) (e ∙ sym (word-long x))
+-- an alphabet above 64 is too wide
+pub wide-alphabet : (x : Index) → 64 < x .alphabet → tooWide x ≡ true
+wide-alphabet x h = lt-ltb 64 (top x) (omega (arith, h, alphabet-least (x .family) (x .alphabet) (length (wordOf x))))
 
 -- not too wide, the alphabet itself is at most 64
 pub narrow-alphabet : (x : Index) → tooWide x ≡ false → x .alphabet ≤ 64

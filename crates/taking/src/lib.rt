@@ -37,13 +37,26 @@ pub fn too_wide(family: Family, n: u64, k: u64) -> bool
     64 < shifted_alphabet(family, n, k)
 }
 
-// The shifted alphabet of a record.
+// The shifted alphabet of a record. The ones are counted only where it depends on them.
 pub fn top(x: Index) -> u64
-    requires { ⌜ tooWide x ≡ false ⌝ }
+    requires { ⌜ x .alphabet ≤ 64 ⌝ }
     ensures { λ r. ⌜ r ≡ topOf x ⌝ }
 {
     let family = x.family;
+    if let Family::Forbidden = family {
+        return x.alphabet;
+    }
     shifted_alphabet(family, x.alphabet, bits::count_ones(x.bits))
+}
+
+// Whether it is above 64.
+fn wide(x: Index) -> bool
+    ensures { λ r. ⌜ r ≡ tooWide x ⌝ }
+{
+    if 64 < x.alphabet {
+        return true;
+    }
+    64 < top(x)
 }
 
 // Whether a symbol of the word is not below the record's alphabet. That is so exactly if a bit stands at its shifted alphabet or above.
@@ -59,8 +72,7 @@ pub fn outside(x: Index) -> bool
 pub fn take(x: Index) -> Verdict
     ensures { λ r. ⌜ r ≡ verdictOf x ⌝ }
 {
-    let family = x.family;
-    if too_wide(family, x.alphabet, bits::count_ones(x.bits)) {
+    if wide(x) {
         return Verdict::Refused(Refusal::TooWide);
     }
     if outside(x) {
@@ -73,12 +85,10 @@ pub fn take(x: Index) -> Verdict
 pub fn take_both(x: Index, y: Index) -> Verdict
     ensures { λ r. ⌜ r ≡ verdictOfBoth x y ⌝ }
 {
-    let family = x.family;
-    if too_wide(family, x.alphabet, bits::count_ones(x.bits)) {
+    if wide(x) {
         return Verdict::Refused(Refusal::TooWide);
     }
-    let other = y.family;
-    if too_wide(other, y.alphabet, bits::count_ones(y.bits)) {
+    if wide(y) {
         return Verdict::Refused(Refusal::TooWide);
     }
     if outside(x) {

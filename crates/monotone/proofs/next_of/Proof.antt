@@ -3,7 +3,7 @@ use mathlib.Core.Path.{_≡_, sym, ap, _∙_}
 use Prim.Native.Nat.{ℕ}
 use Rattle.words.specs.Bits.{setBits}
 use Rattle.bits.specs.Member.{reaches}
-use Rattle.taking.proofs.Accepted.{accepted-passes}
+use Rattle.taking.proofs.Accepted.{accepted-passes, narrow-alphabet}
 use Rattle.monotone.proofs.Passing.{following}
 use borrow.Author.Needs.{needs}
 use Rattle.monotone.proofs.next_of.Statement.{statement}
@@ -17,7 +17,8 @@ returns c =
     following (c .before .before .args .x) (c .before .successor .result) (c .before .before .pre) (c .before .successor .ensures) .last (c .if1 .taken)
 
 top-requires : tie.Need-top-requires
-top-requires c κs = accepted-passes (c .before .before .args .x) (c .before .before .pre) .0
+top-requires c κs =
+    narrow-alphabet (c .before .before .args .x) (accepted-passes (c .before .before .args .x) (c .before .before .pre) .0)
 
 reaches-requires : tie.Need-reaches-requires
 reaches-requires c κs = search needs

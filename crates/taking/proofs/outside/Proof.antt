@@ -4,12 +4,12 @@ use Prim.Native.Nat.{ℕ}
 use borrow.Author.Needs.{needs}
 use Rattle.words.specs.Bits.{setBits}
 use Rattle.bits.specs.Member.{reaches}
-use Rattle.taking.proofs.Accepted.{outside-is-reaches}
+use Rattle.taking.proofs.Accepted.{outside-is-reaches, narrow-alphabet}
 use Rattle.taking.proofs.outside.Statement.{statement}
 use Rattle.taking.proofs.outside.Tie as tie
 
 top-requires : tie.Need-top-requires
-top-requires c κs = search needs
+top-requires c κs = narrow-alphabet (c .args .x) (c .pre)
 
 reaches-requires : tie.Need-reaches-requires
 reaches-requires c κs = search needs
