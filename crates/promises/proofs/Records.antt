@@ -15,7 +15,7 @@ use lib.Dec.{eqb, leb, ltb}
 use lib.ListN.{length}
 use Rattle.words.specs.declared.Family.{Family}
 use Rattle.words.specs.Pick.{pick}
-use Rattle.words.specs.Word.{Word, shiftedAlphabet, count}
+use Rattle.words.specs.Word.{Word, shiftedAlphabet}
 use Rattle.words.specs.Rank.{rankOf}
 use Rattle.words.specs.Unrank.{unrankOf}
 use Rattle.words.specs.Next.{first, next}

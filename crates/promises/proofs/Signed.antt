@@ -2,10 +2,10 @@
 --   deleting-and-merging-back    a symbol deleted and merged back from the left gives the index, with the sign of the deletion
 --   a-sign-times-itself-is-plus    so the product of the two signs is plus
 use mathlib.Core.Path.{_≡_, refl, sym, ap, ap₂, subst, _∙_}
-use mathlib.Core.Bool.{true, false}
+use mathlib.Core.Bool.{false}
 use mathlib.Core.Logic.{inl, inr}
 use mathlib.Core.List.{List, [], _∷_, _++_}
-use Prim.Native.Nat.{ℕ, zero, suc, _+_, _≤_, _<_, max}
+use Prim.Native.Nat.{ℕ, zero, suc, _+_, _<_, max}
 use native.Mathlib.Nat.{not-suc-le-zero, le-of-suc-le-suc, le-refl, le-max-left, max-le}
 use native.Mathlib.Omega.{arith}
 use borrow.Author.Tests.{le-ltb, eq-eqb}
@@ -15,7 +15,7 @@ use Rattle.words.specs.declared.Family.{Family}
 use Rattle.words.specs.declared.Family.the-variants.{Forbidden, Allowed}
 use Rattle.words.specs.Word.{Monotone, shiftedAlphabet}
 use Rattle.words.specs.HowMany.{In}
-use Rattle.words.specs.Inversions.{crossings, inversions, multiplicity, equalPairs}
+use Rattle.words.specs.Inversions.{crossings, multiplicity, equalPairs}
 use Rattle.words.proofs.Word.{monotone-weaker, alphabet-shorter}
 use Rattle.words.proofs.Positions.{below-at}
 use Rattle.words.proofs.Inversions.{merge-sign-is-left-larger}

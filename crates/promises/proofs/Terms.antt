@@ -12,22 +12,22 @@
 --   successor-refuses-exactly-at-the-top-bits    that is so exactly if its k ones stand at the top of the digits of its shifted alphabet
 --   walk-lists-the-words-in-order    a walk over n gives exactly the words over n, each once, in order, and then ends
 use mathlib.Core.Path.{_≡_, refl, sym, ap, subst, subst₂, _∙_}
-use mathlib.Core.Bool.{Bool, true, false, not}
+use mathlib.Core.Bool.{Bool, true, false}
 use mathlib.Core.Logic.{_↔_, _⊎_, inl, inr}
 use mathlib.Core.List.{List, [], _∷_}
 use Prim.Native.Nat.{ℕ, zero, suc, _+_, _-_, _*_, _^_, _≤_, _<_, zero-le}
-use native.Mathlib.Nat.{zero-lt-suc, suc-add, add-suc, add-zero, zero-add}
+use native.Mathlib.Nat.{suc-add, add-suc, add-zero, zero-add}
 use native.Mathlib.Decide.{decLe}
 use native.Mathlib.Omega.{arith}
-use borrow.Author.Tests.{ltb-false, leb-false, eqb-true, eqb-false, not-false}
-use lib.Dec.{eqb, leb, ltb}
+use borrow.Author.Tests.{eqb-true, eqb-false}
+use lib.Dec.{eqb}
 use lib.ListN.{length, getD, take}
 use lib.Seq.{take-all}
 use Rattle.pascal.specs.Choose.{choose}
 use Rattle.words.specs.declared.Family.{Family}
 use Rattle.words.specs.Word.{Monotone, Below, Word, shift, shifted, unshifted, shiftedAlphabet, count}
 use Rattle.words.specs.Colex.{ColexLt}
-use Rattle.words.specs.HowMany.{In, Distinct, HowMany}
+use Rattle.words.specs.HowMany.{HowMany}
 use Rattle.words.specs.Rank.{rankFrom, rankOf}
 use Rattle.words.specs.Unrank.{unrankOf}
 use Rattle.words.specs.Next.{next, last}
@@ -43,18 +43,18 @@ use Rattle.words.proofs.Positions.{shifted-below}
 use Rattle.words.proofs.Counted.{count-is-how-many-words, rank-is-how-many-earlier}
 use Rattle.words.proofs.Next.{next-long, next-monotone, next-rank, next-is-later, nothing-between-word-and-next}
 use Rattle.answers.specs.declared.Index.{Index}
-use Rattle.answers.specs.Says.{Says, refuses, gives, refusedIf, andThen}
+use Rattle.answers.specs.Says.{refuses, gives, refusedIf}
 use Rattle.answers.specs.Terms.{indexOf, wordOf}
-use Rattle.answers.proofs.Says.{gives-same, gives-no-refusal, passed, stopped, then-gave}
+use Rattle.answers.proofs.Says.{gives-same, gives-no-refusal, passed, stopped}
 use Rattle.answers.proofs.Terms.{word-of-index, word-monotone, shifted-word}
-use Rattle.packing.specs.Checks.{rises, lastShifted}
-use Rattle.packing.proofs.Checks.{rises-is-monotone, last-shifted-at, last-shifted-none}
+use Rattle.packing.specs.Checks.{lastShifted}
+use Rattle.packing.proofs.Checks.{last-shifted-at, last-shifted-none}
 use Rattle.monotone.specs.declared.Walk.{Walk}
-use Rattle.monotone.specs.Rules.{countSays, packSays, rankSays, unrankOverSays, unrankSays, nextSays, successorSays}
+use Rattle.monotone.specs.Rules.{countSays, rankSays, unrankSays, nextSays, successorSays}
 use Rattle.taking.specs.Taken.{top, Accepted}
 use Rattle.taking.proofs.Accepted.{accepted-is-a-word, taken-accepted, taken-gives}
-use Rattle.monotone.specs.Walks.{walkSays, stepSays}
-use Rattle.monotone.proofs.Rules.{Counted, count-given, count-gives, Unranked, unrank-given, unrank-gives, Ranked, checked-given, checked-gives}
+use Rattle.monotone.specs.Walks.{walkSays}
+use Rattle.monotone.proofs.Rules.{Counted, count-given, Unranked, unrank-given, unrank-gives, Ranked, checked-given, checked-gives}
 use Rattle.promises.specs.Listing.{listing, Lists, sumBelow}
 use Rattle.promises.proofs.Walks.{pos-of-ne, Standing, walk-stands, walk-lists-by-rank}
 use Rattle.promises.proofs.From.{from, from-long, from-at, in-from, from-in, from-distinct}

@@ -4,9 +4,9 @@
 --   successor-of-unrank, successor-of-the-last    the successor of the word of a rank is that of the next rank, and of the last there is none
 --   walk-stands, step-ends    the start, and the end: after its last word a walk stands nowhere
 --   walk-lists-by-rank    d steps give the words of the ranks below d, up to the count
-use mathlib.Core.Path.{_≡_, refl, sym, ap, ap₂, subst, _∙_}
+use mathlib.Core.Path.{_≡_, refl, sym, ap, ap₂, _∙_}
 use mathlib.Core.Bool.{Bool, true, false}
-use mathlib.Core.List.{List, [], _∷_}
+use mathlib.Core.List.{List, _∷_}
 use Prim.Native.Nat.{ℕ, zero, suc, _+_, _-_, _≤_, _<_}
 use native.Mathlib.Nat.{zero-add, zero-lt-suc}
 use native.Mathlib.Omega.{arith}
@@ -17,7 +17,6 @@ use Rattle.pascal.proofs.Choose.{choose-none}
 use Rattle.words.specs.declared.Family.{Family}
 use Rattle.words.specs.Pick.{pick}
 use Rattle.words.specs.Word.{Monotone, Word, shiftedAlphabet, count}
-use Rattle.words.specs.Rank.{rankOf}
 use Rattle.words.specs.Unrank.{unrankOf}
 use Rattle.words.specs.Next.{first, next}
 use Rattle.words.proofs.Rank.{rank-tells-words-apart, rank-below-count}
@@ -32,13 +31,12 @@ use Rattle.answers.specs.Terms.{indexOf, wordOf}
 use Rattle.answers.proofs.Says.{gives-same}
 use Rattle.answers.proofs.Terms.{word-of-index}
 use Rattle.monotone.specs.declared.Walk.{Walk}
-use Rattle.monotone.specs.declared.Current.{Current}
 use Rattle.monotone.specs.declared.Current.the-variants.{At, Nothing}
 use Rattle.monotone.specs.Rules.{countSays, nextSays, successorSays}
 use Rattle.taking.specs.Taken.{Accepted}
 use Rattle.taking.proofs.Accepted.{index-accepted, taken-accepted}
 use Rattle.monotone.specs.Walks.{Moved, walkSays, current, stepFrom, stepSays}
-use Rattle.monotone.proofs.Rules.{Counted, count-given}
+use Rattle.monotone.proofs.Rules.{Counted}
 use Rattle.promises.proofs.From.{from}
 use Rattle.promises.specs.Listing.{follow, listing}
 

@@ -17,11 +17,10 @@ use Prim.Native.Nat.{ℕ, _^_, _≤_, _<_}
 use native.Mathlib.Omega.{arith}
 use borrow.Author.Tests.{ltb-false, lt-ltb, le-ltb}
 use lib.Count.{ones-le}
-use lib.Dec.{ltb}
 use lib.ListN.{length}
 use Rattle.words.specs.declared.Family.{Family}
 use Rattle.words.specs.declared.Family.the-variants.{Forbidden}
-use Rattle.words.specs.Word.{Monotone, Below, Word, shifted, shiftedAlphabet}
+use Rattle.words.specs.Word.{Below, Word, shiftedAlphabet}
 use Rattle.words.specs.Pick.{pick}
 use Rattle.words.specs.Bits.{setBits}
 use Rattle.words.proofs.Word.{alphabet-least}

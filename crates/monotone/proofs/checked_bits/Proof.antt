@@ -1,9 +1,8 @@
 -- `monotone::checked_bits` meets its contract: each return by the checks that led there. Assumes nothing.
 use mathlib.Core.Path.{_≡_, sym, _∙_}
 use mathlib.Core.Bool.{true, false}
-use native.Mathlib.Omega.{arith}
 use borrow.Author.Needs.{needs}
-use borrow.Author.Tests.{lt-ltb, le-ltb, ltb-false, not-true, not-false}
+use borrow.Author.Tests.{lt-ltb, le-ltb, ltb-false}
 use lib.Dec.{ltb}
 use Rattle.packing.specs.Checks.{rises, lastShifted}
 use Rattle.monotone.proofs.Rules.{ranked-fits}

@@ -1,5 +1,5 @@
 -- `monotone::next_of` meets its contract: the next set, held against the shifted alphabet. Assumes nothing.
-use mathlib.Core.Path.{_≡_, sym, ap, _∙_}
+use mathlib.Core.Path.{sym, ap, _∙_}
 use Prim.Native.Nat.{ℕ}
 use Rattle.words.specs.Bits.{setBits}
 use Rattle.bits.specs.Member.{reaches}
