@@ -6,12 +6,14 @@
 --   stored f s old    what a place holds that held old: the part f of the value, and after a refusal what it held
 --   itself n    a number that is the whole value
 --   minus s    a sign as a truth value
---   indexAt allowed bits, bitsOfIndex x    an index as its two parts, and its bits
---   minusOfTerm t, bitsOfTerm t    the parts of a sign with an index
---   minusOfRemoved d, symbolOfRemoved d, bitsOfRemoved d    the parts of a deletion: its sign, the symbol, what is left
---   walkAt allowed standing at remaining    a walk as whether it stands at an index, the bits of that, and how many remain
---   standingOf w, atOf w, remainingOf w    these parts of a walk; the bits are 0 where it stands nowhere
---   bitsGiven m, standingAfter m, atAfter m, remainingAfter m    what a step gives, and the parts of the walk after it
+--   indexAt allowed n bits    an index as its three parts
+--   alphabetOfIndex x, bitsOfIndex x    the two parts of an index that is given; its family is the one that was asked for
+--   minusOfTerm t, alphabetOfTerm t, bitsOfTerm t    the parts of a sign with an index
+--   minusOfRemoved d, symbolOfRemoved d, alphabetOfRemoved d, bitsOfRemoved d    the parts of a deletion: its sign, the symbol, what is left
+--   walkAt allowed standing over at remaining    a walk as whether it stands at an index, the alphabet and the bits of that, and how many remain
+--   standingOf w, overOf w, atOf w, remainingOf w    these parts of a walk; the alphabet and the bits are 0 where it stands nowhere
+--   alphabetGiven m, bitsGiven m    the two parts of the index that a step gives
+--   standingAfter m, overAfter m, atAfter m, remainingAfter m    the parts of the walk after it
 use mathlib.Core.Bool.{Bool, true, false}
 use mathlib.Core.List.{List}
 use Prim.Native.Nat.{ℕ}
@@ -55,14 +57,20 @@ minus Minus = true
 
 -- ---- indices, with a sign and after a deletion
 
-abbrev pub indexAt : Bool → ℕ → Index
-indexAt allowed bits = record { family = familyOf allowed; bits = bits }
+abbrev pub indexAt : Bool → ℕ → ℕ → Index
+indexAt allowed n bits = record { family = familyOf allowed; alphabet = n; bits = bits }
+
+abbrev pub alphabetOfIndex : Index → ℕ
+alphabetOfIndex x = x .alphabet
 
 abbrev pub bitsOfIndex : Index → ℕ
 bitsOfIndex x = x .bits
 
 abbrev pub minusOfTerm : Term → Bool
 minusOfTerm t = minus (t .sign)
+
+abbrev pub alphabetOfTerm : Term → ℕ
+alphabetOfTerm t = t .index .alphabet
 
 abbrev pub bitsOfTerm : Term → ℕ
 bitsOfTerm t = t .index .bits
@@ -73,6 +81,9 @@ minusOfRemoved d = minus (d .sign)
 abbrev pub symbolOfRemoved : Removed → ℕ
 symbolOfRemoved d = d .symbol
 
+abbrev pub alphabetOfRemoved : Removed → ℕ
+alphabetOfRemoved d = d .index .alphabet
+
 abbrev pub bitsOfRemoved : Removed → ℕ
 bitsOfRemoved d = d .index .bits
 
@@ -82,12 +93,16 @@ abbrev pub currentAt : Bool → Index → Current
 currentAt true x = At x
 currentAt false x = Nothing
 
-abbrev pub walkAt : Bool → Bool → ℕ → ℕ → Walk
-walkAt allowed standing at remaining = record { current = currentAt standing (indexAt allowed at); remaining = remaining }
+abbrev pub walkAt : Bool → Bool → ℕ → ℕ → ℕ → Walk
+walkAt allowed standing over at remaining = record { current = currentAt standing (indexAt allowed over at); remaining = remaining }
 
 abbrev pub stands : Current → Bool
 stands (At x) = true
 stands Nothing = false
+
+abbrev pub alphabetThere : Current → ℕ
+alphabetThere (At x) = x .alphabet
+alphabetThere Nothing = 0
 
 abbrev pub bitsThere : Current → ℕ
 bitsThere (At x) = x .bits
@@ -96,17 +111,26 @@ bitsThere Nothing = 0
 abbrev pub standingOf : Walk → Bool
 standingOf w = stands (w .current)
 
+abbrev pub overOf : Walk → ℕ
+overOf w = alphabetThere (w .current)
+
 abbrev pub atOf : Walk → ℕ
 atOf w = bitsThere (w .current)
 
 abbrev pub remainingOf : Walk → ℕ
 remainingOf w = w .remaining
 
+abbrev pub alphabetGiven : Moved → ℕ
+alphabetGiven m = m .index .alphabet
+
 abbrev pub bitsGiven : Moved → ℕ
 bitsGiven m = m .index .bits
 
 abbrev pub standingAfter : Moved → Bool
 standingAfter m = standingOf (m .state)
+
+abbrev pub overAfter : Moved → ℕ
+overAfter m = overOf (m .state)
 
 abbrev pub atAfter : Moved → ℕ
 atAfter m = atOf (m .state)

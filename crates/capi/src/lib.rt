@@ -1,6 +1,6 @@
 // Every public call for programs in C or Rust, under the prefix gudrenoss_ (docs/RULES.md, "The C boundary"; include/gudrenoss.h says the same to a C
 // programmer). One rule for all: the refusal comes back, its number 0 for an answer; results go to the caller's places, which are written only on an answer.
-// A family crosses as whether it is Allowed, an index as its family and its bits, a sign as whether it is minus, a slice as a pointer and a length.
+// A family crosses as whether it is Allowed, an index as its family, its alphabet and its bits, a sign as whether it is minus, a slice as a pointer and a length.
 //   terms           counting, packing, ranking, unranking, the next term, walks
 //   signed          canonicalise, merge, delete, complement, stabilizer
 //   sets            insert, contains, position, select

@@ -1,15 +1,14 @@
 // Terms, for programs in C (docs/RULES.md, section 5). Each call answers and is refused as the call of the crate monotone that it names. A family is whether it
-// is Allowed, and an index its family and its bits. A walk is three variables of the caller's: whether it stands at an index, the bits of that index, which are 0
-// where it stands nowhere, and how many indices it has still to give.
+// is Allowed, and an index its family, its alphabet n and its bits. "Taken" is how a given index is taken first: 1 if its shifted alphabet is above 64; 7 if a symbol
+// of its word is not below n. A walk is four variables of the caller's: whether it stands at an index, the alphabet and the bits of that index, which are 0 where it
+// stands nowhere, and how many indices it has still to give.
 ghost use mathlib.Core.Path.{_≡_};
 ghost use lib.ListN.{length};
-ghost use Rattle.words.specs.Rank.{rankOf};
 ghost use Rattle.answers.specs.Says.{after, placesOf};
-ghost use Rattle.answers.specs.Terms.{wordOf};
-ghost use Rattle.monotone.specs.Rules.{countSays, packSays, unpackSays, symbolSays, rankSays, unrankOverSays, unrankSays, unrankAnySays, successorSays};
+ghost use Rattle.monotone.specs.Rules.{countSays, packSays, degreeSays, unpackSays, symbolSays, rankSays, rankOfSays, unrankOverSays, unrankSays, unrankAnySays, successorSays};
 ghost use Rattle.monotone.specs.Walks.{walkSays, stepSays};
-ghost use Rattle.boundary.specs.Boundary.{familyOf, indexAt, answered, status, stored, itself, bitsOfIndex};
-ghost use Rattle.boundary.specs.Boundary.{walkAt, standingOf, atOf, remainingOf, bitsGiven, standingAfter, atAfter, remainingAfter};
+ghost use Rattle.boundary.specs.Boundary.{familyOf, indexAt, status, stored, itself, alphabetOfIndex, bitsOfIndex};
+ghost use Rattle.boundary.specs.Boundary.{walkAt, standingOf, overOf, atOf, remainingOf, alphabetGiven, bitsGiven, standingAfter, overAfter, atAfter, remainingAfter};
 use boundary::Status;
 
 // How many words of k symbols below n there are: 1 if k or the shifted alphabet is above 64.
@@ -21,53 +20,74 @@ pub extern "C" fn gudrenoss_count(allowed: bool, n: u64, k: u64, count: &mut u64
     boundary::number(monotone::count(boundary::family(allowed), n, k), count)
 }
 
-// The bits of the index of a word: 1 if it has more than 64 symbols; 2 if it breaks its family's rule; 1 if its last shifted symbol is above 63.
+// The index of a word over n, as its alphabet n and its bits: 1 if the word has more than 64 symbols or the shifted alphabet is above 64; 2 if it breaks its family's
+// rule; 1 if its last shifted symbol is above 63; 7 if a symbol is not below n.
 #[no_mangle]
-pub extern "C" fn gudrenoss_pack(allowed: bool, word: &[u64], bits: &mut u64) -> Status
-    ensures back { λ r. ⌜ r ≡ status (packSays (familyOf allowed) (now (word .entry))) ⌝ }
-    ensures holds { λ r. ⌜ now (bits .exit) ≡ stored bitsOfIndex (packSays (familyOf allowed) (now (word .entry))) (now (bits .entry)) ⌝ }
+pub extern "C" fn gudrenoss_pack(
+    allowed: bool,
+    n: u64,
+    word: &[u64],
+    alphabet: &mut u64,
+    bits: &mut u64,
+) -> Status
+    ensures back { λ r. ⌜ r ≡ status (packSays (familyOf allowed) n (now (word .entry))) ⌝ }
+    ensures alphabet { λ r. ⌜ now (alphabet .exit) ≡ stored alphabetOfIndex (packSays (familyOf allowed) n (now (word .entry))) (now (alphabet .entry)) ⌝ }
+    ensures bits { λ r. ⌜ now (bits .exit) ≡ stored bitsOfIndex (packSays (familyOf allowed) n (now (word .entry))) (now (bits .entry)) ⌝ }
 {
-    boundary::bits(monotone::pack(boundary::family(allowed), word), bits)
+    boundary::indexed(
+        monotone::pack(boundary::family(allowed), n, word),
+        alphabet,
+        bits,
+    )
 }
 
-// The word of an index, and how many places it takes: 8 if the lent word is shorter.
+// The word of an index, and how many places it takes: taken; 8 if the lent word is shorter.
 #[no_mangle]
 pub extern "C" fn gudrenoss_unpack(
     allowed: bool,
+    n: u64,
     bits: u64,
     word: &mut [u64],
     written: &mut u64,
 ) -> Status
-    ensures back { λ r. ⌜ r ≡ status (placesOf (unpackSays (indexAt allowed bits) (length (now (word .entry))))) ⌝ }
-    ensures written { λ r. ⌜ now (written .exit) ≡ stored itself (placesOf (unpackSays (indexAt allowed bits) (length (now (word .entry))))) (now (written .entry)) ⌝ }
-    ensures holds { λ r. ⌜ now (word .exit) ≡ after (unpackSays (indexAt allowed bits) (length (now (word .entry)))) (now (word .entry)) ⌝ }
+    ensures back { λ r. ⌜ r ≡ status (placesOf (unpackSays (indexAt allowed n bits) (length (now (word .entry))))) ⌝ }
+    ensures written { λ r. ⌜ now (written .exit) ≡ stored itself (placesOf (unpackSays (indexAt allowed n bits) (length (now (word .entry))))) (now (written .entry)) ⌝ }
+    ensures holds { λ r. ⌜ now (word .exit) ≡ after (unpackSays (indexAt allowed n bits) (length (now (word .entry)))) (now (word .entry)) ⌝ }
 {
     boundary::number(
-        monotone::unpack(boundary::index(allowed, bits), word),
+        monotone::unpack(boundary::index(allowed, n, bits), word),
         written,
     )
 }
 
-// How many symbols the word of an index has. Never refused.
+// How many symbols the word of an index has: taken.
 #[no_mangle]
-pub extern "C" fn gudrenoss_degree(allowed: bool, bits: u64, degree: &mut u64) -> Status
-    ensures back { λ r. ⌜ r ≡ answered ⌝ }
-    ensures holds { λ r. ⌜ now (degree .exit) ≡ length (wordOf (indexAt allowed bits)) ⌝ }
+pub extern "C" fn gudrenoss_degree(allowed: bool, n: u64, bits: u64, degree: &mut u64) -> Status
+    ensures back { λ r. ⌜ r ≡ status (degreeSays (indexAt allowed n bits)) ⌝ }
+    ensures holds { λ r. ⌜ now (degree .exit) ≡ stored itself (degreeSays (indexAt allowed n bits)) (now (degree .entry)) ⌝ }
 {
-    *degree = monotone::degree(boundary::index(allowed, bits));
-    boundary::answer()
+    boundary::number(monotone::degree(boundary::index(allowed, n, bits)), degree)
 }
 
-// The symbol at position p of the word of an index: 7 if it has no such position.
+// The symbol at position p of the word of an index: taken; 7 if it has no such position.
 #[no_mangle]
-pub extern "C" fn gudrenoss_symbol(allowed: bool, bits: u64, p: u64, symbol: &mut u64) -> Status
-    ensures back { λ r. ⌜ r ≡ status (symbolSays (indexAt allowed bits) p) ⌝ }
-    ensures holds { λ r. ⌜ now (symbol .exit) ≡ stored itself (symbolSays (indexAt allowed bits) p) (now (symbol .entry)) ⌝ }
+pub extern "C" fn gudrenoss_symbol(
+    allowed: bool,
+    n: u64,
+    bits: u64,
+    p: u64,
+    symbol: &mut u64,
+) -> Status
+    ensures back { λ r. ⌜ r ≡ status (symbolSays (indexAt allowed n bits) p) ⌝ }
+    ensures holds { λ r. ⌜ now (symbol .exit) ≡ stored itself (symbolSays (indexAt allowed n bits) p) (now (symbol .entry)) ⌝ }
 {
-    boundary::number(monotone::symbol(boundary::index(allowed, bits), p), symbol)
+    boundary::number(
+        monotone::symbol(boundary::index(allowed, n, bits), p),
+        symbol,
+    )
 }
 
-// The rank of a word: 1, 2, 1 as in packing it.
+// The rank of a word, which is given no n: 1 if it has more than 64 symbols; 2 if it breaks its family's rule; 1 if its last shifted symbol is above 63.
 #[no_mangle]
 pub extern "C" fn gudrenoss_rank(allowed: bool, word: &[u64], rank: &mut u64) -> Status
     ensures back { λ r. ⌜ r ≡ status (rankSays (familyOf allowed) (now (word .entry))) ⌝ }
@@ -76,14 +96,13 @@ pub extern "C" fn gudrenoss_rank(allowed: bool, word: &[u64], rank: &mut u64) ->
     boundary::number(monotone::rank(boundary::family(allowed), word), rank)
 }
 
-// The rank of the word of an index. Never refused.
+// The rank of the word of an index, which does not depend on its n: taken.
 #[no_mangle]
-pub extern "C" fn gudrenoss_rank_of(allowed: bool, bits: u64, rank: &mut u64) -> Status
-    ensures back { λ r. ⌜ r ≡ answered ⌝ }
-    ensures holds { λ r. ⌜ now (rank .exit) ≡ rankOf (familyOf allowed) (wordOf (indexAt allowed bits)) ⌝ }
+pub extern "C" fn gudrenoss_rank_of(allowed: bool, n: u64, bits: u64, rank: &mut u64) -> Status
+    ensures back { λ r. ⌜ r ≡ status (rankOfSays (indexAt allowed n bits)) ⌝ }
+    ensures holds { λ r. ⌜ now (rank .exit) ≡ stored itself (rankOfSays (indexAt allowed n bits)) (now (rank .entry)) ⌝ }
 {
-    *rank = monotone::rank_of(boundary::index(allowed, bits));
-    boundary::answer()
+    boundary::number(monotone::rank_of(boundary::index(allowed, n, bits)), rank)
 }
 
 // The word of k symbols below n that has the rank r, and how many places it takes: 1 as in the count; 3 if r is not below that; 8 if the lent word is shorter.
@@ -106,40 +125,66 @@ pub extern "C" fn gudrenoss_unrank(
     )
 }
 
-// The bits of the index of that word: 1, 3.
+// The index of that word, as its alphabet n and its bits: 1, 3.
 #[no_mangle]
 pub extern "C" fn gudrenoss_unrank_over(
     allowed: bool,
     n: u64,
     k: u64,
     r: u64,
+    alphabet: &mut u64,
     bits: &mut u64,
 ) -> Status
     ensures back { λ a. ⌜ a ≡ status (unrankOverSays (familyOf allowed) n k r) ⌝ }
-    ensures holds { λ a. ⌜ now (bits .exit) ≡ stored bitsOfIndex (unrankOverSays (familyOf allowed) n k r) (now (bits .entry)) ⌝ }
+    ensures alphabet { λ a. ⌜ now (alphabet .exit) ≡ stored alphabetOfIndex (unrankOverSays (familyOf allowed) n k r) (now (alphabet .entry)) ⌝ }
+    ensures bits { λ a. ⌜ now (bits .exit) ≡ stored bitsOfIndex (unrankOverSays (familyOf allowed) n k r) (now (bits .entry)) ⌝ }
 {
-    boundary::bits(
+    boundary::indexed(
         monotone::unrank_over(boundary::family(allowed), n, k, r),
+        alphabet,
         bits,
     )
 }
 
-// The bits of the index of the word of k symbols that has the rank r, over the shifted alphabet 64: 1 if k is above 64; 3 if r is not below the count.
+// The index of the word of k symbols that has the rank r, over the shifted alphabet 64, as its alphabet (64, or 65 - k for Allowed from degree 1) and its bits: 1 if k
+// is above 64; 3 if r is not below the count.
 #[no_mangle]
-pub extern "C" fn gudrenoss_unrank_any(allowed: bool, k: u64, r: u64, bits: &mut u64) -> Status
+pub extern "C" fn gudrenoss_unrank_any(
+    allowed: bool,
+    k: u64,
+    r: u64,
+    alphabet: &mut u64,
+    bits: &mut u64,
+) -> Status
     ensures back { λ a. ⌜ a ≡ status (unrankAnySays (familyOf allowed) k r) ⌝ }
-    ensures holds { λ a. ⌜ now (bits .exit) ≡ stored bitsOfIndex (unrankAnySays (familyOf allowed) k r) (now (bits .entry)) ⌝ }
+    ensures alphabet { λ a. ⌜ now (alphabet .exit) ≡ stored alphabetOfIndex (unrankAnySays (familyOf allowed) k r) (now (alphabet .entry)) ⌝ }
+    ensures bits { λ a. ⌜ now (bits .exit) ≡ stored bitsOfIndex (unrankAnySays (familyOf allowed) k r) (now (bits .entry)) ⌝ }
 {
-    boundary::bits(monotone::unrank_any(boundary::family(allowed), k, r), bits)
+    boundary::indexed(
+        monotone::unrank_any(boundary::family(allowed), k, r),
+        alphabet,
+        bits,
+    )
 }
 
-// The bits of the next index of that family and degree: 4 if none in 64 bits is later.
+// The next index of that family, alphabet and degree, as its alphabet and its bits: taken; 4 if none is later.
 #[no_mangle]
-pub extern "C" fn gudrenoss_successor(allowed: bool, bits: u64, next: &mut u64) -> Status
-    ensures back { λ r. ⌜ r ≡ status (successorSays (indexAt allowed bits)) ⌝ }
-    ensures holds { λ r. ⌜ now (next .exit) ≡ stored bitsOfIndex (successorSays (indexAt allowed bits)) (now (next .entry)) ⌝ }
+pub extern "C" fn gudrenoss_successor(
+    allowed: bool,
+    n: u64,
+    bits: u64,
+    next_alphabet: &mut u64,
+    next_bits: &mut u64,
+) -> Status
+    ensures back { λ r. ⌜ r ≡ status (successorSays (indexAt allowed n bits)) ⌝ }
+    ensures alphabet { λ r. ⌜ now («next_alphabet» .exit) ≡ stored alphabetOfIndex (successorSays (indexAt allowed n bits)) (now («next_alphabet» .entry)) ⌝ }
+    ensures bits { λ r. ⌜ now («next_bits» .exit) ≡ stored bitsOfIndex (successorSays (indexAt allowed n bits)) (now («next_bits» .entry)) ⌝ }
 {
-    boundary::bits(monotone::successor(boundary::index(allowed, bits)), next)
+    boundary::indexed(
+        monotone::successor(boundary::index(allowed, n, bits)),
+        next_alphabet,
+        next_bits,
+    )
 }
 
 // The start of a walk over the words of k symbols below n: 1 as in the count.
@@ -149,38 +194,53 @@ pub extern "C" fn gudrenoss_walk_start(
     n: u64,
     k: u64,
     standing: &mut bool,
+    over: &mut u64,
     at: &mut u64,
     remaining: &mut u64,
 ) -> Status
     ensures back { λ r. ⌜ r ≡ status (walkSays (familyOf allowed) n k) ⌝ }
     ensures standing { λ r. ⌜ now (standing .exit) ≡ stored standingOf (walkSays (familyOf allowed) n k) (now (standing .entry)) ⌝ }
+    ensures over { λ r. ⌜ now (over .exit) ≡ stored overOf (walkSays (familyOf allowed) n k) (now (over .entry)) ⌝ }
     ensures at { λ r. ⌜ now (at .exit) ≡ stored atOf (walkSays (familyOf allowed) n k) (now (at .entry)) ⌝ }
     ensures remaining { λ r. ⌜ now (remaining .exit) ≡ stored remainingOf (walkSays (familyOf allowed) n k) (now (remaining .entry)) ⌝ }
 {
     boundary::started(
         monotone::start(boundary::family(allowed), n, k),
         standing,
+        over,
         at,
         remaining,
     )
 }
 
-// One step of a walk: the bits of the index that it stood at, and the walk moved on: 4 if nothing remains or it stands nowhere. The family is that of the start.
-// A walk that somebody made up is stepped by the same rule.
+// One step of a walk: the index that it stood at, as its alphabet and its bits, and the walk moved on: 4 if it stands nowhere; the index where it stands taken; 4 if
+// nothing remains. The family is that of the start. A walk that somebody made up is stepped by the same rule.
 #[no_mangle]
 pub extern "C" fn gudrenoss_walk_step(
     allowed: bool,
     standing: &mut bool,
+    over: &mut u64,
     at: &mut u64,
     remaining: &mut u64,
+    alphabet: &mut u64,
     bits: &mut u64,
 ) -> Status
-    ensures back { λ r. ⌜ r ≡ status (stepSays (walkAt allowed (now (standing .entry)) (now (at .entry)) (now (remaining .entry)))) ⌝ }
-    ensures standing { λ r. ⌜ now (standing .exit) ≡ stored standingAfter (stepSays (walkAt allowed (now (standing .entry)) (now (at .entry)) (now (remaining .entry)))) (now (standing .entry)) ⌝ }
-    ensures at { λ r. ⌜ now (at .exit) ≡ stored atAfter (stepSays (walkAt allowed (now (standing .entry)) (now (at .entry)) (now (remaining .entry)))) (now (at .entry)) ⌝ }
-    ensures remaining { λ r. ⌜ now (remaining .exit) ≡ stored remainingAfter (stepSays (walkAt allowed (now (standing .entry)) (now (at .entry)) (now (remaining .entry)))) (now (remaining .entry)) ⌝ }
-    ensures bits { λ r. ⌜ now (bits .exit) ≡ stored bitsGiven (stepSays (walkAt allowed (now (standing .entry)) (now (at .entry)) (now (remaining .entry)))) (now (bits .entry)) ⌝ }
+    ensures back { λ r. ⌜ r ≡ status (stepSays (walkAt allowed (now (standing .entry)) (now (over .entry)) (now (at .entry)) (now (remaining .entry)))) ⌝ }
+    ensures standing { λ r. ⌜ now (standing .exit) ≡ stored standingAfter (stepSays (walkAt allowed (now (standing .entry)) (now (over .entry)) (now (at .entry)) (now (remaining .entry)))) (now (standing .entry)) ⌝ }
+    ensures over { λ r. ⌜ now (over .exit) ≡ stored overAfter (stepSays (walkAt allowed (now (standing .entry)) (now (over .entry)) (now (at .entry)) (now (remaining .entry)))) (now (over .entry)) ⌝ }
+    ensures at { λ r. ⌜ now (at .exit) ≡ stored atAfter (stepSays (walkAt allowed (now (standing .entry)) (now (over .entry)) (now (at .entry)) (now (remaining .entry)))) (now (at .entry)) ⌝ }
+    ensures remaining { λ r. ⌜ now (remaining .exit) ≡ stored remainingAfter (stepSays (walkAt allowed (now (standing .entry)) (now (over .entry)) (now (at .entry)) (now (remaining .entry)))) (now (remaining .entry)) ⌝ }
+    ensures alphabet { λ r. ⌜ now (alphabet .exit) ≡ stored alphabetGiven (stepSays (walkAt allowed (now (standing .entry)) (now (over .entry)) (now (at .entry)) (now (remaining .entry)))) (now (alphabet .entry)) ⌝ }
+    ensures bits { λ r. ⌜ now (bits .exit) ≡ stored bitsGiven (stepSays (walkAt allowed (now (standing .entry)) (now (over .entry)) (now (at .entry)) (now (remaining .entry)))) (now (bits .entry)) ⌝ }
 {
-    let state = boundary::walk(allowed, *standing, *at, *remaining);
-    boundary::stepped(monotone::step(state), standing, at, remaining, bits)
+    let state = boundary::walk(allowed, *standing, *over, *at, *remaining);
+    boundary::stepped(
+        monotone::step(state),
+        standing,
+        over,
+        at,
+        remaining,
+        alphabet,
+        bits,
+    )
 }

@@ -7,27 +7,27 @@ use Rattle.boundary.proofs.number.Lts as lts
 use Rattle.boundary.proofs.answer.Reads as answer-reads
 use Rattle.boundary.proofs.refused.Reads as refused-reads
 
--- src/lib.rt:80:20
+-- src/lib.rt:86:20
 enum-known-a : tie.Need-enum-known-a
 enum-known-a c = search needs
 
--- src/lib.rt:82:13
+-- src/lib.rt:88:13
 answer-requires : tie.Need-answer-requires
 answer-requires c κs = search needs
 
--- src/lib.rt:84:25
+-- src/lib.rt:90:25
 enum-known-a-2 : tie.Need-enum-known-a-2
 enum-known-a-2 c = search needs
 
--- src/lib.rt:84:31
+-- src/lib.rt:90:31
 refused-requires : tie.Need-refused-requires
 refused-requires c κs = search needs
 
--- src/lib.rt:75:1
+-- src/lib.rt:81:1
 returns : tie.Need-returns
 returns c = search needs
 
--- src/lib.rt:75:1
+-- src/lib.rt:81:1
 returns-2 : tie.Need-returns-2
 returns-2 c = simp (c .before .before .a2 .given .1, c .refused .ensures) (refl, refl)
 

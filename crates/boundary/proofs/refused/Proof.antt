@@ -7,15 +7,15 @@ use Rattle.boundary.proofs.refused.Lts as lts
 use Rattle.answers.proofs.number.Reads as number-reads
 use Rattle.answers.proofs.place.Reads as place-reads
 
--- src/lib.rt:41:9
+-- src/lib.rt:43:9
 number-requires : tie.Need-number-requires
 number-requires c κs = search needs
 
--- src/lib.rt:42:9
+-- src/lib.rt:44:9
 place-requires : tie.Need-place-requires
 place-requires c κs = search needs
 
--- src/lib.rt:38:1
+-- src/lib.rt:40:1
 returns : tie.Need-returns
 returns c = simp (c .before .number .ensures, c .place .ensures) refl
 

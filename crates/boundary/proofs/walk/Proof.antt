@@ -6,15 +6,15 @@ use Rattle.boundary.proofs.walk.Reads as reads
 use Rattle.boundary.proofs.walk.Lts as lts
 use Rattle.boundary.proofs.index.Reads as index-reads
 
--- src/lib.rt:141:35
+-- src/lib.rt:159:35
 index-requires : tie.Need-index-requires
 index-requires c κs = search needs
 
--- src/lib.rt:142:9
+-- src/lib.rt:160:9
 returns : tie.Need-returns
 returns c = simp (c .before .if1 .taken, c .index .ensures) refl
 
--- src/lib.rt:137:1
+-- src/lib.rt:155:1
 returns-2 : tie.Need-returns-2
 returns-2 c = simp (c .if1 .left) refl
 

@@ -7,21 +7,21 @@ use Rattle.boundary.proofs.index.Reads as index-reads
 use Rattle.boundary.proofs.signed.Reads as signed-reads
 use Rattle.deletion.proofs.complement.Reads as complement-reads
 
--- src/signed.rt:86:30
+-- src/signed.rt:105:30
 index-requires : tie.Need-index-requires
 index-requires c κs = search needs
 
--- src/signed.rt:86:9
+-- src/signed.rt:105:9
 complement-requires : tie.Need-complement-requires
 complement-requires c κs = search needs
 
--- src/signed.rt:85:5
+-- src/signed.rt:104:5
 signed-requires : tie.Need-signed-requires
 signed-requires c κs = search needs
 
--- src/signed.rt:73:1
+-- src/signed.rt:89:1
 returns : tie.Need-returns
-returns c = simp (c .before .before .before .complement .ensures, c .before .before .before .before .index .ensures) at (c .signed .ensures)
+returns c = simp (c .before .before .before .before .complement .ensures, c .before .before .before .before .before .index .ensures) at (c .signed .ensures)
 
 pub gudrenoss-complement-spec : {M : Type 1} → statement M
 gudrenoss-complement-spec =

@@ -7,19 +7,19 @@ use Rattle.boundary.proofs.index.Reads as index-reads
 use Rattle.boundary.proofs.number.Reads as number-reads
 use Rattle.deletion.proofs.stabilizer.Reads as stabilizer-reads
 
--- src/signed.rt:99:30
+-- src/signed.rt:124:30
 index-requires : tie.Need-index-requires
 index-requires c κs = search needs
 
--- src/signed.rt:99:9
+-- src/signed.rt:124:9
 stabilizer-requires : tie.Need-stabilizer-requires
 stabilizer-requires c κs = search needs
 
--- src/signed.rt:98:5
+-- src/signed.rt:123:5
 number-requires : tie.Need-number-requires
 number-requires c κs = search needs
 
--- src/signed.rt:93:1
+-- src/signed.rt:113:1
 returns : tie.Need-returns
 returns c = simp (c .before .before .stabilizer .ensures, c .before .before .before .index .ensures) at (c .number .ensures)
 

@@ -7,19 +7,19 @@ use Rattle.boundary.proofs.family.Reads as family-reads
 use Rattle.boundary.proofs.number.Reads as number-reads
 use Rattle.monotone.proofs.count.Reads as count-reads
 
--- src/terms.rt:21:38
+-- src/terms.rt:20:38
 family-requires : tie.Need-family-requires
 family-requires c κs = search needs
 
--- src/terms.rt:21:22
+-- src/terms.rt:20:22
 count-requires : tie.Need-count-requires
 count-requires c κs = search needs
 
--- src/terms.rt:21:5
+-- src/terms.rt:20:5
 number-requires : tie.Need-number-requires
 number-requires c κs = search needs
 
--- src/terms.rt:16:1
+-- src/terms.rt:15:1
 returns : tie.Need-returns
 returns c = simp (c .before .before .count .ensures, c .before .before .before .family .ensures) at (c .number .ensures)
 

@@ -7,19 +7,19 @@ use Rattle.boundary.proofs.family.Reads as family-reads
 use Rattle.boundary.proofs.number.Reads as number-reads
 use Rattle.monotone.proofs.rank.Reads as rank-reads
 
--- src/terms.rt:76:37
+-- src/terms.rt:96:37
 family-requires : tie.Need-family-requires
 family-requires c κs = search needs
 
--- src/terms.rt:76:22
+-- src/terms.rt:96:22
 rank-requires : tie.Need-rank-requires
 rank-requires c κs = search needs
 
--- src/terms.rt:76:5
+-- src/terms.rt:96:5
 number-requires : tie.Need-number-requires
 number-requires c κs = search needs
 
--- src/terms.rt:71:1
+-- src/terms.rt:91:1
 returns : tie.Need-returns
 returns c = simp (c .before .before .rank .ensures, c .before .before .before .family .ensures) at (c .number .ensures)
 

@@ -7,23 +7,23 @@ use Rattle.boundary.proofs.index.Reads as index-reads
 use Rattle.boundary.proofs.number.Reads as number-reads
 use Rattle.monotone.proofs.unpack.Reads as unpack-reads
 
--- src/terms.rt:46:26
+-- src/terms.rt:58:26
 index-requires : tie.Need-index-requires
 index-requires c κs = search needs
 
--- src/terms.rt:46:9
+-- src/terms.rt:58:9
 unpack-requires : tie.Need-unpack-requires
 unpack-requires c κs = search needs
 
--- src/terms.rt:45:5
+-- src/terms.rt:57:5
 number-requires : tie.Need-number-requires
 number-requires c κs = search needs
 
--- src/terms.rt:34:1
+-- src/terms.rt:45:1
 same-length : tie.Need-same-length
 same-length c = search needs
 
--- src/terms.rt:34:1
+-- src/terms.rt:45:1
 returns : tie.Need-returns
 returns c = (simp (c .before .before .before .before .unpack .ensures .0, c .before .before .before .before .before .before .index .ensures) at (c .number .ensures .0), (simp (c .before .before .before .before .unpack .ensures .0, c .before .before .before .before .before .before .index .ensures) at (c .number .ensures .1), simp (c .before .before .before .before .before .before .index .ensures) at (c .before .before .before .before .unpack .ensures .1)))
 

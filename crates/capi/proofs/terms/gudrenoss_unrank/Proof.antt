@@ -7,23 +7,23 @@ use Rattle.boundary.proofs.family.Reads as family-reads
 use Rattle.boundary.proofs.number.Reads as number-reads
 use Rattle.monotone.proofs.unrank.Reads as unrank-reads
 
--- src/terms.rt:104:26
+-- src/terms.rt:123:26
 family-requires : tie.Need-family-requires
 family-requires c κs = search needs
 
--- src/terms.rt:104:9
+-- src/terms.rt:123:9
 unrank-requires : tie.Need-unrank-requires
 unrank-requires c κs = search needs
 
--- src/terms.rt:103:5
+-- src/terms.rt:122:5
 number-requires : tie.Need-number-requires
 number-requires c κs = search needs
 
--- src/terms.rt:90:1
+-- src/terms.rt:109:1
 same-length : tie.Need-same-length
 same-length c = search needs
 
--- src/terms.rt:90:1
+-- src/terms.rt:109:1
 returns : tie.Need-returns
 returns c = (simp (c .before .before .before .before .unrank .ensures .0, c .before .before .before .before .before .before .family .ensures) at (c .number .ensures .0), (simp (c .before .before .before .before .unrank .ensures .0, c .before .before .before .before .before .before .family .ensures) at (c .number .ensures .1), simp (c .before .before .before .before .before .before .family .ensures) at (c .before .before .before .before .unrank .ensures .1)))
 

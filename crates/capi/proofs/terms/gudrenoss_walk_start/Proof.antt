@@ -7,21 +7,21 @@ use Rattle.boundary.proofs.family.Reads as family-reads
 use Rattle.boundary.proofs.started.Reads as started-reads
 use Rattle.monotone.proofs.start.Reads as start-reads
 
--- src/terms.rt:161:25
+-- src/terms.rt:208:25
 family-requires : tie.Need-family-requires
 family-requires c κs = search needs
 
--- src/terms.rt:161:9
+-- src/terms.rt:208:9
 start-requires : tie.Need-start-requires
 start-requires c κs = search needs
 
--- src/terms.rt:160:5
+-- src/terms.rt:207:5
 started-requires : tie.Need-started-requires
 started-requires c κs = search needs
 
--- src/terms.rt:146:1
+-- src/terms.rt:191:1
 returns : tie.Need-returns
-returns c = simp (c .before .before .before .before .start .ensures, c .before .before .before .before .before .family .ensures) at (c .started .ensures)
+returns c = simp (c .before .before .before .before .before .start .ensures, c .before .before .before .before .before .before .family .ensures) at (c .started .ensures)
 
 pub gudrenoss-walk-start-spec : {M : Type 1} → statement M
 gudrenoss-walk-start-spec =

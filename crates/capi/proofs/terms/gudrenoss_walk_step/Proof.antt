@@ -7,21 +7,21 @@ use Rattle.boundary.proofs.stepped.Reads as stepped-reads
 use Rattle.boundary.proofs.walk.Reads as walk-reads
 use Rattle.monotone.proofs.step.Reads as step-reads
 
--- src/terms.rt:184:9
+-- src/terms.rt:236:9
 walk-requires : tie.Need-walk-requires
 walk-requires c κs = search needs
 
--- src/terms.rt:185:23
+-- src/terms.rt:238:9
 step-requires : tie.Need-step-requires
 step-requires c κs = search needs
 
--- src/terms.rt:185:5
+-- src/terms.rt:237:5
 stepped-requires : tie.Need-stepped-requires
 stepped-requires c κs = search needs
 
--- src/terms.rt:170:1
+-- src/terms.rt:218:1
 returns : tie.Need-returns
-returns c = simp (c .before .before .before .before .before .step .ensures, c .before .before .before .before .before .before .walk .ensures) at (c .stepped .ensures)
+returns c = simp (c .before .before .before .before .before .before .before .step .ensures, c .before .before .before .before .before .before .before .before .walk .ensures) at (c .stepped .ensures)
 
 pub gudrenoss-walk-step-spec : {M : Type 1} → statement M
 gudrenoss-walk-step-spec =
