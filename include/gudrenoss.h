@@ -28,8 +28,13 @@
  * shift         what a position adds to its symbol: 0 for Forbidden, the position itself for Allowed. The word of the shifted
  *               symbols strictly increases in both families. A word over n has its shifted symbols below the shifted alphabet:
  *               n for Forbidden and for degree 0, otherwise n + k - 1.
- * index         a family and 64 bits: bit b is set if b is a shifted symbol. Every 64-bit number is an index of either family.
- *               Its degree is the number of ones.
+ * index         a family, an alphabet n and 64 bits: bit b is set if b is a shifted symbol. Its degree is the number of ones. It
+ *               holds a word over n. It is passed as three parameters, allowed, n and bits, and given as two, the alphabet and the
+ *               bits; the family is then the one that was passed. Any numbers may be passed: "the index's checks" come before all
+ *               others, and of two indices the 1 of either comes before the 7 of either:
+ *                   1  the shifted alphabet of n and the degree is above 64
+ *                   7  a symbol of its word is not below n
+ *               An index that a function has given passes them.
  * rank          how many words of the same family and length stand earlier. Of two words, the earlier has the smaller symbol at
  *               the highest position where they differ (colexicographic order). A rank does not depend on the alphabet.
  * set           a bare 64-bit number whose ones are the members.
@@ -59,7 +64,7 @@
  * - Pointers are aligned as their type asks.
  * - A place or buffer that is written must not overlap another one or a list that is read: such a call gives wrong numbers or ends
  *   the program. Two lists that are read may overlap, and a value that is passed may be that of the place of a result, as in
- *   gudrenoss_successor(true, bits, &bits).
+ *   gudrenoss_successor(true, n, bits, &n, &bits).
  * - A bool holds true or false and nothing else, also where it is read through a pointer.
  * - Where a length or a room is 0, nothing is read or written through its pointer. Pass any pointer to memory of your own. NULL is
  *   outside what the proofs speak of; the code is compiled without the assumption that such a pointer is not NULL, and is tested
@@ -149,32 +154,37 @@ gudrenoss_refusal gudrenoss_version(uint64_t *major, uint64_t *minor, uint64_t *
  * Of Allowed 3 2 there are 6. */
 GUDRENOSS_MUST_USE gudrenoss_refusal gudrenoss_count(bool allowed, uint64_t n, uint64_t k, uint64_t *count);
 
-/* The index of a word.
- *   1  the word has more than 64 symbols
+/* The index of a word over n.
+ *   1  the word has more than 64 symbols, or the shifted alphabet of n and its length is above 64
  *   2  the word breaks the family's rule; at: the first position whose symbol may not stand after its neighbour
  *   1  its last shifted symbol is above 63
- *   *bits: the set of the shifted symbols
- * Allowed (0, 2) is bits 9. Allowed (3, 5, 4, 1) is refused 2 at 2. */
+ *   7  a symbol is not below n
+ *   *alphabet: n;  *bits: the set of the shifted symbols
+ * Allowed (0, 2) over 3 is alphabet 3, bits 9. Allowed (3, 5, 4, 1) over 6 is refused 2 at 2. */
 GUDRENOSS_MUST_USE gudrenoss_refusal gudrenoss_pack(
-    bool allowed, const uint64_t *word, size_t word_len, uint64_t *bits);
+    bool allowed, uint64_t n, const uint64_t *word, size_t word_len, uint64_t *alphabet, uint64_t *bits);
 
 /* The word of an index.
+ *   1, 7  the index's checks
  *   8  word_room is below the degree
  *   word: the symbols, shift taken off;  *written: the degree
- * Allowed bits 25 is 0 2 2. */
+ * Allowed 3 with bits 25 is 0 2 2. */
 GUDRENOSS_MUST_USE gudrenoss_refusal gudrenoss_unpack(
-    bool allowed, uint64_t bits, uint64_t *word, size_t word_room, uint64_t *written);
+    bool allowed, uint64_t n, uint64_t bits, uint64_t *word, size_t word_room, uint64_t *written);
 
-/* The degree of an index. Never refused.
+/* The degree of an index.
+ *   1, 7  the index's checks
  *   *degree: the number of ones among the bits */
-gudrenoss_refusal gudrenoss_degree(bool allowed, uint64_t bits, uint64_t *degree);
+GUDRENOSS_MUST_USE gudrenoss_refusal gudrenoss_degree(bool allowed, uint64_t n, uint64_t bits, uint64_t *degree);
 
 /* The symbol at position p of an index's word.
+ *   1, 7  the index's checks
  *   7  p is not below the degree
  *   *symbol: the symbol, shift taken off */
-GUDRENOSS_MUST_USE gudrenoss_refusal gudrenoss_symbol(bool allowed, uint64_t bits, uint64_t p, uint64_t *symbol);
+GUDRENOSS_MUST_USE gudrenoss_refusal gudrenoss_symbol(
+    bool allowed, uint64_t n, uint64_t bits, uint64_t p, uint64_t *symbol);
 
-/* The rank of a word.
+/* The rank of a word. It is given no alphabet, since the rank does not depend on it.
  *   1  the word has more than 64 symbols
  *   2  the word breaks the family's rule; at: the first position whose symbol may not stand after its neighbour
  *   1  its last shifted symbol is above 63
@@ -183,9 +193,10 @@ GUDRENOSS_MUST_USE gudrenoss_refusal gudrenoss_symbol(bool allowed, uint64_t bit
 GUDRENOSS_MUST_USE gudrenoss_refusal gudrenoss_rank(
     bool allowed, const uint64_t *word, size_t word_len, uint64_t *rank);
 
-/* The rank of the word of an index. Never refused.
+/* The rank of the word of an index, which does not depend on its alphabet.
+ *   1, 7  the index's checks
  *   *rank: the rank */
-gudrenoss_refusal gudrenoss_rank_of(bool allowed, uint64_t bits, uint64_t *rank);
+GUDRENOSS_MUST_USE gudrenoss_refusal gudrenoss_rank_of(bool allowed, uint64_t n, uint64_t bits, uint64_t *rank);
 
 /* The word of k symbols below n that has rank r.
  *   1  k > 64, or the shifted alphabet of n and k is above 64
@@ -199,79 +210,98 @@ GUDRENOSS_MUST_USE gudrenoss_refusal gudrenoss_unrank(
 /* The same as an index.
  *   1  k > 64, or the shifted alphabet of n and k is above 64
  *   3  r is not below the count of n and k
- *   *bits: the index's bits */
+ *   *alphabet: n;  *bits: the index's bits */
 GUDRENOSS_MUST_USE gudrenoss_refusal gudrenoss_unrank_over(
-    bool allowed, uint64_t n, uint64_t k, uint64_t r, uint64_t *bits);
+    bool allowed, uint64_t n, uint64_t k, uint64_t r, uint64_t *alphabet, uint64_t *bits);
 
 /* The index of degree k that has rank r, with no alphabet named: all 64 bits may be used.
  *   1  k > 64
  *   3  r is not below the binomial coefficient of 64 over k
- *   *bits: the index's bits */
-GUDRENOSS_MUST_USE gudrenoss_refusal gudrenoss_unrank_any(bool allowed, uint64_t k, uint64_t r, uint64_t *bits);
+ *   *alphabet: the one whose shifted alphabet is 64, that is 64, or 65 - k for Allowed from degree 1;  *bits: the index's bits */
+GUDRENOSS_MUST_USE gudrenoss_refusal gudrenoss_unrank_any(
+    bool allowed, uint64_t k, uint64_t r, uint64_t *alphabet, uint64_t *bits);
 
-/* The next index of the same family and degree. Only the 64 bits bound it.
- *   4  no index of that degree is later (so for bits 0)
- *   *next: its bits
- * After bits 3 comes 5. */
-GUDRENOSS_MUST_USE gudrenoss_refusal gudrenoss_successor(bool allowed, uint64_t bits, uint64_t *next);
+/* The next index of the same family, alphabet and degree.
+ *   1, 7  the index's checks
+ *   4  no word over n of that degree is later (so for bits 0)
+ *   *next_alphabet: n;  *next_bits: its bits
+ * After Allowed 3 with bits 3 comes bits 5. Allowed 3 with bits 12, that is (2, 2), is refused 4. */
+GUDRENOSS_MUST_USE gudrenoss_refusal gudrenoss_successor(
+    bool allowed, uint64_t n, uint64_t bits, uint64_t *next_alphabet, uint64_t *next_bits);
 
-/* A walk goes through all words of a family with k symbols below n, in order of rank. It is three variables of the caller's:
- * whether it stands at an index, the bits of that index (0 if it stands nowhere), and how many indices it has still to give. The
- * family is for the caller to remember.
+/* A walk goes through all words of a family with k symbols below n, in order of rank. It is four variables of the caller's: whether
+ * it stands at an index, the alphabet and the bits of that index (both 0 if it stands nowhere), and how many indices it has still to
+ * give. The family is for the caller to remember.
  *   1  k > 64, or the shifted alphabet of n and k is above 64
- *   *standing, *at: the first index, or false and 0 if there are no words;  *remaining: the count */
+ *   *standing, *over, *at: the first index, with the alphabet n, or false, 0 and 0 if there are no words;  *remaining: the count */
 GUDRENOSS_MUST_USE gudrenoss_refusal gudrenoss_walk_start(
-    bool allowed, uint64_t n, uint64_t k, bool *standing, uint64_t *at, uint64_t *remaining);
+    bool allowed, uint64_t n, uint64_t k, bool *standing, uint64_t *over, uint64_t *at, uint64_t *remaining);
 
-/* One step of a walk. It reads the three variables, gives the index at which the walk stands, and moves them on.
- *   4  *remaining is 0, or the walk stands nowhere
- *   *bits: the index at which the walk stood;  *standing, *at: the next index of its degree in 64 bits, or false and 0 if there is
- *   none;  *remaining: one fewer
- * A state that the caller made up is stepped by the same rule. */
+/* One step of a walk. It reads the four variables, gives the index at which the walk stands, and moves them on.
+ *   4  the walk stands nowhere
+ *   1, 7  the checks of the index at which it stands
+ *   4  *remaining is 0
+ *   *alphabet, *bits: the index at which the walk stood;  *standing, *over, *at: the next index of its alphabet and degree, or false,
+ *   0 and 0 if there is none;  *remaining: one fewer
+ * A state that the caller made up is stepped by the same rule. After its last word a walk stands nowhere. */
 GUDRENOSS_MUST_USE gudrenoss_refusal gudrenoss_walk_step(
-    bool allowed, bool *standing, uint64_t *at, uint64_t *remaining, uint64_t *bits);
+    bool allowed, bool *standing, uint64_t *over, uint64_t *at, uint64_t *remaining, uint64_t *alphabet,
+    uint64_t *bits);
 
 /* ---- Signed operations ------------------------------------------------------------------------------------------------------ */
 
-/* The index of a word that is given in any order.
- *   1  the word has more than 64 symbols
+/* The index over n of a word that is given in any order.
+ *   1  the word has more than 64 symbols, or the shifted alphabet of n and its length is above 64
  *   5  the family is Forbidden and a symbol occurs twice
  *   1  the last shifted symbol of the sorted word is above 63
- *   *minus: whether the number of inversions is odd, false for Allowed;  *bits: the index of the sorted word
- * Forbidden (2, 0) is minus, bits 5. */
+ *   7  a symbol is not below n
+ *   *minus: whether the number of inversions is odd, false for Allowed;  *alphabet, *bits: the index of the sorted word, over n
+ * Forbidden (2, 0) over 4 is minus, alphabet 4, bits 5. */
 GUDRENOSS_MUST_USE gudrenoss_refusal gudrenoss_canonicalise(
-    bool allowed, const uint64_t *word, size_t word_len, bool *minus, uint64_t *bits);
-
-/* The two words of one family joined into one sorted word.
- *   6  the families differ
- *   5  Forbidden, and the two share a symbol
- *   1  Allowed, and a shifted symbol of the joined word is above 63
- *   *minus: whether the number of pairs with the left symbol larger is odd, false for Allowed;  *bits: the joined word's index
- * Allowed bits 9 with bits 4, that is (0, 2) with (2), is plus, bits 25. */
-GUDRENOSS_MUST_USE gudrenoss_refusal gudrenoss_merge(
-    bool left_allowed, uint64_t left_bits, bool right_allowed, uint64_t right_bits, bool *minus,
+    bool allowed, uint64_t n, const uint64_t *word, size_t word_len, bool *minus, uint64_t *alphabet,
     uint64_t *bits);
 
-/* The symbol at position p taken out of an index's word.
- *   7  p is not below the degree
- *   *minus: whether p is odd, false for Allowed;  *symbol: the symbol, shift taken off;  *rest: the index of what is left
- * Allowed bits 22 at position 1 is plus, symbol 1, bits 10. */
-GUDRENOSS_MUST_USE gudrenoss_refusal gudrenoss_delete(
-    bool allowed, uint64_t bits, uint64_t p, bool *minus, uint64_t *symbol, uint64_t *rest);
+/* The two words of one family joined into one sorted word, over the larger of the two alphabets.
+ *   1, 7  the checks of both indices: the 1 of either, then the 7 of either
+ *   6  the families differ
+ *   5  Forbidden, and the two share a symbol
+ *   1  Allowed, and the shifted alphabet of the larger alphabet and the sum of the degrees is above 64
+ *   *minus: whether the number of pairs with the left symbol larger is odd, false for Allowed;  *alphabet, *bits: the joined word's
+ *   index
+ * Allowed 3 with bits 9 and Allowed 3 with bits 4, that is (0, 2) and (2), is plus, alphabet 3, bits 25. Two Allowed indices of
+ * gudrenoss_unrank_any, each of degree 1 or more, are always refused 1: their alphabets leave no room for a longer word. */
+GUDRENOSS_MUST_USE gudrenoss_refusal gudrenoss_merge(
+    bool left_allowed, uint64_t left_n, uint64_t left_bits, bool right_allowed, uint64_t right_n,
+    uint64_t right_bits, bool *minus, uint64_t *alphabet, uint64_t *bits);
 
-/* The symbols below n that a Forbidden index does not have.
+/* The symbol at position p taken out of an index's word.
+ *   1, 7  the index's checks
+ *   7  p is not below the degree
+ *   *minus: whether p is odd, false for Allowed;  *symbol: the symbol, shift taken off;  *rest_alphabet, *rest_bits: the index of
+ *   what is left, over the same n
+ * Allowed 3 with bits 22 at position 1 is plus, symbol 1, alphabet 3, bits 10. */
+GUDRENOSS_MUST_USE gudrenoss_refusal gudrenoss_delete(
+    bool allowed, uint64_t n, uint64_t bits, uint64_t p, bool *minus, uint64_t *symbol,
+    uint64_t *rest_alphabet, uint64_t *rest_bits);
+
+/* The symbols below m that a Forbidden index does not have. Its own alphabet n may be larger than m, or smaller.
+ *   1, 7  the index's checks
  *   6  the index is Allowed
- *   1  n > 64
- *   7  the index has a symbol that is n or more
- *   *minus: the sign of the merge of the index with its complement;  *rest: the complement, a Forbidden index
- * Of bits 5 in 4 it is minus, bits 10. */
+ *   1  m > 64
+ *   7  the index has a symbol that is m or more
+ *   *minus: the sign of the merge of the index with its complement;  *rest_alphabet, *rest_bits: the complement, a Forbidden index
+ *   over m
+ * Of bits 5 over 64 in 4 it is minus, alphabet 4, bits 10. */
 GUDRENOSS_MUST_USE gudrenoss_refusal gudrenoss_complement(
-    bool allowed, uint64_t bits, uint64_t n, bool *minus, uint64_t *rest);
+    bool allowed, uint64_t n, uint64_t bits, uint64_t m, bool *minus, uint64_t *rest_alphabet,
+    uint64_t *rest_bits);
 
 /* The product of the factorials of the multiplicities of the word's symbols.
+ *   1, 7  the index's checks
  *   9  the product is 2^64 or more
  *   *stabilizer: the product, 1 for every Forbidden index */
-GUDRENOSS_MUST_USE gudrenoss_refusal gudrenoss_stabilizer(bool allowed, uint64_t bits, uint64_t *stabilizer);
+GUDRENOSS_MUST_USE gudrenoss_refusal gudrenoss_stabilizer(
+    bool allowed, uint64_t n, uint64_t bits, uint64_t *stabilizer);
 
 /* ---- Sets ------------------------------------------------------------------------------------------------------------------- */
 

@@ -13,18 +13,18 @@ static const double gain[blocks] = {1.000, 1.004, 0.998, 1.011, 1.002, 0.995, 1.
 /* The coefficients of p p, p t, t t, p w, t w and w w, by the rank of the term. p, t, w are the readings 0, 1, 2. */
 static const double coefficient[terms] = {0.25, -0.50, 0.125, 1.00, 0.75, -0.0625};
 
-/* The block of a set of live sensors. */
+/* The block of a set of live sensors. A sensor that the tank does not have is refused where the set is made. */
 static gudrenoss_refusal block_of(const uint64_t *live, size_t live_len, uint64_t *block)
 {
     bool reordered;
-    uint64_t set, count;
-    gudrenoss_refusal refusal = gudrenoss_canonicalise(false, live, live_len, &reordered, &set);
+    uint64_t alphabet, set, rank;
+    gudrenoss_refusal refusal = gudrenoss_canonicalise(false, sensors, live, live_len, &reordered, &alphabet, &set);
     if (refusal.number == GUDRENOSS_OK)
-        refusal = gudrenoss_count(false, sensors, live_len, &count);
+        refusal = gudrenoss_rank_of(false, alphabet, set, &rank);
+    if (refusal.number == GUDRENOSS_OK && live_len != needed)
+        refusal.number = GUDRENOSS_SHAPE;
     if (refusal.number == GUDRENOSS_OK)
-        refusal = gudrenoss_rank_of(false, set, block);
-    if (refusal.number == GUDRENOSS_OK && (live_len != needed || *block >= count))
-        refusal.number = GUDRENOSS_NO_SUCH_RANK;
+        *block = rank;
     return refusal;
 }
 
@@ -32,15 +32,15 @@ static gudrenoss_refusal block_of(const uint64_t *live, size_t live_len, uint64_
 static gudrenoss_refusal mass_of(const double reading[readings], double *mass)
 {
     bool standing;
-    uint64_t at, remaining, bits, rank, word[degree], len;
-    gudrenoss_refusal refusal = gudrenoss_walk_start(true, readings, degree, &standing, &at, &remaining);
+    uint64_t over, at, remaining, alphabet, bits, rank, word[degree], len;
+    gudrenoss_refusal refusal = gudrenoss_walk_start(true, readings, degree, &standing, &over, &at, &remaining);
     double sum = 0;
     while (refusal.number == GUDRENOSS_OK && remaining > 0) {
-        refusal = gudrenoss_walk_step(true, &standing, &at, &remaining, &bits);
+        refusal = gudrenoss_walk_step(true, &standing, &over, &at, &remaining, &alphabet, &bits);
         if (refusal.number == GUDRENOSS_OK)
-            refusal = gudrenoss_rank_of(true, bits, &rank);
+            refusal = gudrenoss_rank_of(true, alphabet, bits, &rank);
         if (refusal.number == GUDRENOSS_OK)
-            refusal = gudrenoss_unpack(true, bits, word, degree, &len);
+            refusal = gudrenoss_unpack(true, alphabet, bits, word, degree, &len);
         if (refusal.number == GUDRENOSS_OK)
             sum += coefficient[rank] * reading[word[0]] * reading[word[1]];
     }
@@ -51,7 +51,7 @@ static gudrenoss_refusal mass_of(const double reading[readings], double *mass)
 
 int main(void)
 {
-    const uint64_t live[] = {4, 0, 3}, twice[] = {4, 0, 4}, term[] = {0, 2}, unsorted[] = {0, 2, 1};
+    const uint64_t live[] = {4, 0, 3}, twice[] = {4, 0, 4}, unknown[] = {4, 0, 5}, term[] = {0, 2}, unsorted[] = {0, 2, 1};
     const double reading[readings] = {2.0, 1.5, 4.0};
     uint64_t block, rank;
     double mass;
@@ -64,6 +64,7 @@ int main(void)
     printf("the term p w has coefficient number %u: %.3f\n", (unsigned)rank, coefficient[rank]);
     printf("mass %.6f, calibrated %.6f\n", mass, gain[block] * mass);
     printf("sensor 4 named twice: refusal %u\n", (unsigned)block_of(twice, 3, &block).number);
+    printf("sensor 5, which there is not: refusal %u\n", (unsigned)block_of(unknown, 3, &block).number);
     refusal = gudrenoss_rank(true, unsorted, 3, &rank);
     printf("the term p w t, unsorted: refusal %u at position %u\n", (unsigned)refusal.number, (unsigned)refusal.at);
     return 0;

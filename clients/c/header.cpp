@@ -17,5 +17,10 @@ int main()
     const gudrenoss_refusal refusal = gudrenoss_rank(true, word, 4, &rank);
     if (refusal.number != GUDRENOSS_NOT_MONOTONE || refusal.at != 2 || rank != 0)
         return 3;
+    uint64_t alphabet = 0, bits = 0;
+    if (gudrenoss_unrank_over(true, 3, 2, 5, &alphabet, &bits).number != GUDRENOSS_OK || alphabet != 3 || bits != 12)
+        return 4;
+    if (gudrenoss_successor(true, alphabet, bits, &alphabet, &bits).number != GUDRENOSS_LAST || alphabet != 3 || bits != 12)
+        return 5;
     return 0;
 }

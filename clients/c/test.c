@@ -5,26 +5,34 @@
 
 #include <stdio.h>
 
-enum { guard = 2, most = 70 };
+enum { guard = 2, most = 70, numbers = 5 };
 
 /* A list between guards. */
 struct list {
     uint64_t low[guard], place[most], high[guard];
 };
 
-/* The places that are lent: three numbers, a truth value, a buffer that is filled, two lists that are read. */
+/* A number and a guard after it. */
+struct number {
+    uint64_t is, guard;
+};
+
+/* The places that are lent: five numbers, a truth value, a buffer that is filled, two lists that are read. */
 static struct {
-    uint64_t guard_0, number_0, guard_1, number_1, guard_2, number_2, guard_3;
+    uint64_t first_guard;
+    struct number number[numbers];
     bool flag;
-    uint64_t guard_4;
+    uint64_t last_guard;
     struct list out, in[2];
 } lent, before;
 
 static int ins, checks, failed;
 
-#define X (&lent.number_0)
-#define Y (&lent.number_1)
-#define Z (&lent.number_2)
+#define X (&lent.number[0].is)
+#define Y (&lent.number[1].is)
+#define Z (&lent.number[2].is)
+#define V (&lent.number[3].is)
+#define W (&lent.number[4].is)
 #define FLAG (&lent.flag)
 #define OUT(room) lent.out.place, room
 #define COUNT(...) (sizeof((uint64_t[]){__VA_ARGS__}) / sizeof(uint64_t))
@@ -51,11 +59,14 @@ static void fresh(void)
 {
     static uint64_t seed = 1;
     struct list *lists[] = {&lent.out, &lent.in[0], &lent.in[1]};
-    uint64_t *numbers[] = {&lent.guard_0, X, &lent.guard_1, Y, &lent.guard_2, Z, &lent.guard_3, &lent.guard_4};
     for (size_t i = 0; i < sizeof lists / sizeof *lists; i++)
         fill(lists[i], ++seed);
-    for (size_t i = 0; i < sizeof numbers / sizeof *numbers; i++)
-        *numbers[i] = ++seed * 0x9e3779b97f4a7c15u;
+    for (size_t i = 0; i < numbers; i++) {
+        lent.number[i].is = ++seed * 0x9e3779b97f4a7c15u;
+        lent.number[i].guard = ++seed * 0x9e3779b97f4a7c15u;
+    }
+    lent.first_guard = ++seed * 0x9e3779b97f4a7c15u;
+    lent.last_guard = ++seed * 0x9e3779b97f4a7c15u;
     lent.flag = seed % 2;
     before = lent;
     ins = 0;
@@ -88,15 +99,30 @@ static bool same_list(const struct list *a, const struct list *b)
     return same;
 }
 
+static bool same_numbers(void)
+{
+    bool same = true;
+    for (size_t i = 0; i < numbers; i++)
+        same = same && lent.number[i].is == before.number[i].is;
+    return same;
+}
+
+static bool same_guards(void)
+{
+    bool same = lent.first_guard == before.first_guard && lent.last_guard == before.last_guard;
+    for (size_t i = 0; i < numbers; i++)
+        same = same && lent.number[i].guard == before.number[i].guard;
+    return same;
+}
+
 /* The places are as `before` says, which has by now the answer in it. */
 static void look(int line, gudrenoss_refusal back, uint64_t number, uint64_t at)
 {
     check(line, back.number == number, "the refusal's number");
     check(line, back.at == at, "the refusal's place");
-    check(line, lent.number_0 == before.number_0 && lent.number_1 == before.number_1 && lent.number_2 == before.number_2, "a number");
+    check(line, same_numbers(), "a number");
     check(line, lent.flag == before.flag, "a truth value");
-    check(line, lent.guard_0 == before.guard_0 && lent.guard_1 == before.guard_1 && lent.guard_2 == before.guard_2
-            && lent.guard_3 == before.guard_3 && lent.guard_4 == before.guard_4, "a guard of a number");
+    check(line, same_guards(), "a guard of a number");
     check(line, same_list(&lent.out, &before.out), "the buffer");
     check(line, same_list(&lent.in[0], &before.in[0]) && same_list(&lent.in[1], &before.in[1]), "a list that is read");
     fresh();
@@ -115,13 +141,13 @@ static void looks_broken(int line, gudrenoss_refusal back, uint64_t at)
 
 static void looks_number(int line, gudrenoss_refusal back, uint64_t x)
 {
-    before.number_0 = x;
+    before.number[0].is = x;
     look(line, back, GUDRENOSS_OK, 0);
 }
 
 static void looks_two(int line, gudrenoss_refusal back, uint64_t x, uint64_t y)
 {
-    before.number_1 = y;
+    before.number[1].is = y;
     looks_number(line, back, x);
 }
 
@@ -131,16 +157,16 @@ static void looks_flag(int line, gudrenoss_refusal back, bool flag)
     look(line, back, GUDRENOSS_OK, 0);
 }
 
-static void looks_signed(int line, gudrenoss_refusal back, bool minus, uint64_t x)
+static void looks_flag_two(int line, gudrenoss_refusal back, bool flag, uint64_t x, uint64_t y)
 {
-    before.flag = minus;
-    looks_number(line, back, x);
+    before.flag = flag;
+    looks_two(line, back, x, y);
 }
 
-static void looks_signed_two(int line, gudrenoss_refusal back, bool minus, uint64_t x, uint64_t y)
+static void looks_flag_three(int line, gudrenoss_refusal back, bool flag, uint64_t x, uint64_t y, uint64_t z)
 {
-    before.flag = minus;
-    looks_two(line, back, x, y);
+    before.number[2].is = z;
+    looks_flag_two(line, back, flag, x, y);
 }
 
 static void put(const uint64_t *list, size_t len)
@@ -169,8 +195,8 @@ static void looks_entries(int line, gudrenoss_refusal back, const uint64_t *list
 #define number(back, x) looks_number(__LINE__, back, x)
 #define two(back, x, y) looks_two(__LINE__, back, x, y)
 #define flag(back, f) looks_flag(__LINE__, back, f)
-#define sign_and(back, minus, x) looks_signed(__LINE__, back, minus, x)
-#define sign_and_two(back, minus, x, y) looks_signed_two(__LINE__, back, minus, x, y)
+#define flag_and_two(back, f, x, y) looks_flag_two(__LINE__, back, f, x, y)
+#define flag_and_three(back, f, x, y, z) looks_flag_three(__LINE__, back, f, x, y, z)
 #define list(back, ...) looks_list(__LINE__, back, LIST(__VA_ARGS__))
 #define nothing(back) looks_list(__LINE__, back, NULL, 0)
 #define entries(back, ...) looks_entries(__LINE__, back, LIST(__VA_ARGS__))
@@ -227,9 +253,9 @@ static const bool forbidden = false, allowed = true, plus = false, minus = true;
 
 static void test_version(void)
 {
-    before.number_0 = GUDRENOSS_VERSION_MAJOR;
-    before.number_1 = GUDRENOSS_VERSION_MINOR;
-    before.number_2 = GUDRENOSS_VERSION_PATCH;
+    before.number[0].is = GUDRENOSS_VERSION_MAJOR;
+    before.number[1].is = GUDRENOSS_VERSION_MINOR;
+    before.number[2].is = GUDRENOSS_VERSION_PATCH;
     look(__LINE__, gudrenoss_version(X, Y, Z), GUDRENOSS_OK, 0);
 }
 
@@ -273,70 +299,107 @@ static void test_count(void)
 
 static void test_pack(void)
 {
-    number(gudrenoss_pack(allowed, IN(0, 2), X), 9);
-    number(gudrenoss_pack(allowed, IN(1, 1, 2), X), 22);
-    number(gudrenoss_pack(forbidden, IN(0, 2), X), 5);
-    number(gudrenoss_pack(forbidden, IN(63), X), high_bit);
-    number(gudrenoss_pack(allowed, EMPTY, X), 0);
-    number(gudrenoss_pack(forbidden, NULL, 0, X), 0);
-    number(gudrenoss_pack(forbidden, rising(), 64, X), top);
-    number(gudrenoss_pack(allowed, same(0), 64, X), top);
-    refused(gudrenoss_pack(allowed, same(0), 65, X), TOO_WIDE);
-    refused(gudrenoss_pack(forbidden, same(0), 65, X), TOO_WIDE);
-    breaks(gudrenoss_pack(forbidden, IN(1, 1), X), 1);
-    breaks(gudrenoss_pack(allowed, IN(2, 1), X), 1);
-    breaks(gudrenoss_pack(allowed, IN(3, 5, 4, 1), X), 2);
-    breaks(gudrenoss_pack(forbidden, IN(0, 2, 2, 1), X), 2);
-    breaks(gudrenoss_pack(allowed, IN(0, 2, 2, 1), X), 3);
-    breaks(gudrenoss_pack(forbidden, same(0), 64, X), 1);
-    refused(gudrenoss_pack(forbidden, IN(64), X), TOO_WIDE);
-    breaks(gudrenoss_pack(forbidden, IN(64, 0), X), 1);
-    breaks(gudrenoss_pack(forbidden, IN(70, 69), X), 1);
-    breaks(gudrenoss_pack(forbidden, last_falls(), 64, X), 63);
-    breaks(gudrenoss_pack(allowed, last_falls(), 64, X), 63);
-    refused(gudrenoss_pack(allowed, last_falls(), 65, X), TOO_WIDE);
-    refused(gudrenoss_pack(allowed, IN(0, top), X), TOO_WIDE);
-    refused(gudrenoss_pack(allowed, IN(0, 63), X), TOO_WIDE);
+    two(gudrenoss_pack(allowed, 3, IN(0, 2), X, Y), 3, 9);
+    two(gudrenoss_pack(allowed, 3, IN(1, 1, 2), X, Y), 3, 22);
+    two(gudrenoss_pack(forbidden, 4, IN(0, 2), X, Y), 4, 5);
+    two(gudrenoss_pack(forbidden, 64, IN(63), X, Y), 64, high_bit);
+    two(gudrenoss_pack(allowed, 0, EMPTY, X, Y), 0, 0);
+    two(gudrenoss_pack(forbidden, 64, NULL, 0, X, Y), 64, 0);
+    two(gudrenoss_pack(forbidden, 64, rising(), 64, X, Y), 64, top);
+    two(gudrenoss_pack(allowed, 1, same(0), 64, X, Y), 1, top);
+    refused(gudrenoss_pack(allowed, 1, same(0), 65, X, Y), TOO_WIDE);
+    refused(gudrenoss_pack(forbidden, 1, same(0), 65, X, Y), TOO_WIDE);
+    refused(gudrenoss_pack(forbidden, 65, EMPTY, X, Y), TOO_WIDE);
+    refused(gudrenoss_pack(forbidden, 65, IN(1, 1), X, Y), TOO_WIDE);
+    refused(gudrenoss_pack(allowed, 64, IN(0, 0), X, Y), TOO_WIDE);
+    refused(gudrenoss_pack(allowed, top, IN(0, 0), X, Y), TOO_WIDE);
+    breaks(gudrenoss_pack(forbidden, 64, IN(1, 1), X, Y), 1);
+    breaks(gudrenoss_pack(allowed, 3, IN(2, 1), X, Y), 1);
+    breaks(gudrenoss_pack(allowed, 6, IN(3, 5, 4, 1), X, Y), 2);
+    breaks(gudrenoss_pack(forbidden, 3, IN(0, 2, 2, 1), X, Y), 2);
+    breaks(gudrenoss_pack(allowed, 3, IN(0, 2, 2, 1), X, Y), 3);
+    breaks(gudrenoss_pack(forbidden, 1, same(0), 64, X, Y), 1);
+    breaks(gudrenoss_pack(forbidden, 64, IN(64, 0), X, Y), 1);
+    breaks(gudrenoss_pack(forbidden, 64, IN(70, 69), X, Y), 1);
+    breaks(gudrenoss_pack(forbidden, 3, IN(9, 9), X, Y), 1);
+    breaks(gudrenoss_pack(forbidden, 64, last_falls(), 64, X, Y), 63);
+    breaks(gudrenoss_pack(allowed, 1, last_falls(), 64, X, Y), 63);
+    refused(gudrenoss_pack(allowed, 1, last_falls(), 65, X, Y), TOO_WIDE);
+    refused(gudrenoss_pack(forbidden, 64, IN(64), X, Y), TOO_WIDE);
+    refused(gudrenoss_pack(forbidden, 3, IN(64), X, Y), TOO_WIDE);
+    refused(gudrenoss_pack(allowed, 63, IN(0, top), X, Y), TOO_WIDE);
+    refused(gudrenoss_pack(allowed, 63, IN(0, 63), X, Y), TOO_WIDE);
+    refused(gudrenoss_pack(allowed, 62, IN(0, 62), X, Y), OUTSIDE);
+    refused(gudrenoss_pack(forbidden, 3, IN(3), X, Y), OUTSIDE);
+    refused(gudrenoss_pack(forbidden, 3, IN(63), X, Y), OUTSIDE);
+    refused(gudrenoss_pack(allowed, 0, IN(0), X, Y), OUTSIDE);
 }
 
 static void test_unpack(void)
 {
-    list(gudrenoss_unpack(allowed, 25, OUT(3), X), 0, 2, 2);
-    list(gudrenoss_unpack(forbidden, 25, OUT(64), X), 0, 3, 4);
-    nothing(gudrenoss_unpack(allowed, 0, OUT(0), X));
-    nothing(gudrenoss_unpack(allowed, 0, NULL, 0, X));
-    list(gudrenoss_unpack(allowed, high_bit, OUT(1), X), 63);
-    refused(gudrenoss_unpack(allowed, 25, OUT(2), X), SHAPE);
-    refused(gudrenoss_unpack(forbidden, 1, OUT(0), X), SHAPE);
-    refused(gudrenoss_unpack(forbidden, 1, NULL, 0, X), SHAPE);
-    refused(gudrenoss_unpack(forbidden, top, OUT(63), X), SHAPE);
+    list(gudrenoss_unpack(allowed, 3, 25, OUT(3), X), 0, 2, 2);
+    list(gudrenoss_unpack(forbidden, 64, 25, OUT(64), X), 0, 3, 4);
+    nothing(gudrenoss_unpack(allowed, 0, 0, OUT(0), X));
+    nothing(gudrenoss_unpack(allowed, 64, 0, NULL, 0, X));
+    list(gudrenoss_unpack(allowed, 64, high_bit, OUT(1), X), 63);
+    refused(gudrenoss_unpack(allowed, 3, 25, OUT(2), X), SHAPE);
+    refused(gudrenoss_unpack(forbidden, 1, 1, OUT(0), X), SHAPE);
+    refused(gudrenoss_unpack(forbidden, 64, 1, NULL, 0, X), SHAPE);
+    refused(gudrenoss_unpack(forbidden, 64, top, OUT(63), X), SHAPE);
+    refused(gudrenoss_unpack(allowed, 2, 25, OUT(3), X), OUTSIDE);
+    refused(gudrenoss_unpack(allowed, 2, 25, OUT(0), X), OUTSIDE);
+    refused(gudrenoss_unpack(allowed, 63, 25, OUT(0), X), TOO_WIDE);
+    refused(gudrenoss_unpack(forbidden, top, 0, NULL, 0, X), TOO_WIDE);
 }
 
 static void test_index(void)
 {
-    number(gudrenoss_degree(allowed, 25, X), 3);
-    number(gudrenoss_degree(forbidden, 0, X), 0);
-    number(gudrenoss_degree(forbidden, top, X), 64);
-    number(gudrenoss_symbol(allowed, 6, 1, X), 1);
-    number(gudrenoss_symbol(forbidden, 6, 1, X), 2);
-    number(gudrenoss_symbol(allowed, top, 63, X), 0);
-    refused(gudrenoss_symbol(allowed, 6, 2, X), OUTSIDE);
-    refused(gudrenoss_symbol(forbidden, 0, 0, X), OUTSIDE);
-    refused(gudrenoss_symbol(forbidden, top, top, X), OUTSIDE);
-    number(gudrenoss_rank_of(forbidden, 10, X), 4);
-    number(gudrenoss_rank_of(allowed, 6, X), 2);
-    number(gudrenoss_rank_of(allowed, 0, X), 0);
-    number(gudrenoss_rank_of(allowed, top, X), 0);
-    number(gudrenoss_rank_of(forbidden, ~(uint64_t)0 << 32, X), 1832624140942590533u);
-    number(gudrenoss_successor(forbidden, 3, X), 5);
-    number(gudrenoss_successor(allowed, 12, X), 17);
-    number(gudrenoss_successor(forbidden, high_bit >> 1, X), high_bit);
-    lent.number_0 = 3; /* a value that is passed may be that of the place of the result */
-    number(gudrenoss_successor(forbidden, lent.number_0, X), 5);
-    refused(gudrenoss_successor(forbidden, high_bit, X), LAST);
-    refused(gudrenoss_successor(forbidden, 0, X), LAST);
-    refused(gudrenoss_successor(allowed, top, X), LAST);
-    refused(gudrenoss_successor(allowed, ~(uint64_t)0 << 32, X), LAST);
+    number(gudrenoss_degree(allowed, 3, 25, X), 3);
+    number(gudrenoss_degree(forbidden, 0, 0, X), 0);
+    number(gudrenoss_degree(forbidden, 64, top, X), 64);
+    refused(gudrenoss_degree(forbidden, 63, top, X), OUTSIDE);
+    refused(gudrenoss_degree(allowed, 0, 1, X), OUTSIDE);
+    refused(gudrenoss_degree(allowed, 64, 3, X), TOO_WIDE);
+    refused(gudrenoss_degree(allowed, top, 3, X), TOO_WIDE);
+    number(gudrenoss_symbol(allowed, 2, 6, 1, X), 1);
+    number(gudrenoss_symbol(forbidden, 3, 6, 1, X), 2);
+    number(gudrenoss_symbol(allowed, 1, top, 63, X), 0);
+    refused(gudrenoss_symbol(allowed, 2, 6, 2, X), OUTSIDE);
+    refused(gudrenoss_symbol(forbidden, 0, 0, 0, X), OUTSIDE);
+    refused(gudrenoss_symbol(forbidden, 64, top, top, X), OUTSIDE);
+    refused(gudrenoss_symbol(forbidden, 2, 6, 0, X), OUTSIDE);
+    refused(gudrenoss_symbol(allowed, 2, top, top, X), TOO_WIDE);
+    number(gudrenoss_rank_of(forbidden, 4, 10, X), 4);
+    number(gudrenoss_rank_of(forbidden, 64, 10, X), 4);
+    number(gudrenoss_rank_of(allowed, 2, 6, X), 2);
+    number(gudrenoss_rank_of(allowed, 0, 0, X), 0);
+    number(gudrenoss_rank_of(allowed, 1, top, X), 0);
+    number(gudrenoss_rank_of(forbidden, 64, ~(uint64_t)0 << 32, X), 1832624140942590533u);
+    refused(gudrenoss_rank_of(forbidden, 3, 10, X), OUTSIDE);
+    refused(gudrenoss_rank_of(allowed, 1, 6, X), OUTSIDE);
+    refused(gudrenoss_rank_of(allowed, 2, top, X), TOO_WIDE);
+    refused(gudrenoss_rank_of(forbidden, 65, 0, X), TOO_WIDE);
+}
+
+static void test_successor(void)
+{
+    two(gudrenoss_successor(forbidden, 64, 3, X, Y), 64, 5);
+    two(gudrenoss_successor(allowed, 3, 3, X, Y), 3, 5);
+    two(gudrenoss_successor(allowed, 4, 12, X, Y), 4, 17);
+    two(gudrenoss_successor(forbidden, 64, high_bit >> 1, X, Y), 64, high_bit);
+    *X = 4; /* values that are passed may be those of the places of the result */
+    *Y = 3;
+    two(gudrenoss_successor(forbidden, *X, *Y, X, Y), 4, 5);
+    refused(gudrenoss_successor(allowed, 3, 12, X, Y), LAST);
+    refused(gudrenoss_successor(forbidden, 4, 12, X, Y), LAST);
+    refused(gudrenoss_successor(forbidden, 64, high_bit, X, Y), LAST);
+    refused(gudrenoss_successor(forbidden, 64, 0, X, Y), LAST);
+    refused(gudrenoss_successor(allowed, 0, 0, X, Y), LAST);
+    refused(gudrenoss_successor(allowed, 1, top, X, Y), LAST);
+    refused(gudrenoss_successor(allowed, 33, ~(uint64_t)0 << 32, X, Y), LAST);
+    refused(gudrenoss_successor(forbidden, 2, 4, X, Y), OUTSIDE);
+    refused(gudrenoss_successor(allowed, 2, 12, X, Y), OUTSIDE);
+    refused(gudrenoss_successor(forbidden, 65, 0, X, Y), TOO_WIDE);
 }
 
 static void test_rank(void)
@@ -367,136 +430,203 @@ static void test_unrank(void)
     refused(gudrenoss_unrank(allowed, 3, 0, 1, OUT(2), X), NO_SUCH_RANK);
     refused(gudrenoss_unrank(forbidden, 2, 3, 0, OUT(3), X), NO_SUCH_RANK);
     refused(gudrenoss_unrank(forbidden, 65, 2, 0, OUT(2), X), TOO_WIDE);
-    number(gudrenoss_unrank_over(allowed, 3, 2, 3, X), 9);
-    number(gudrenoss_unrank_over(forbidden, 7, 0, 0, X), 0);
-    number(gudrenoss_unrank_over(allowed, 1, 64, 0, X), top);
-    refused(gudrenoss_unrank_over(allowed, 2, 2, 3, X), NO_SUCH_RANK);
-    refused(gudrenoss_unrank_over(allowed, 2, 0, 1, X), NO_SUCH_RANK);
-    refused(gudrenoss_unrank_over(allowed, 2, 65, 0, X), TOO_WIDE);
-    number(gudrenoss_unrank_any(allowed, 2, 3, X), 9);
-    number(gudrenoss_unrank_any(forbidden, 1, 63, X), high_bit);
-    number(gudrenoss_unrank_any(allowed, 64, 0, X), top);
-    number(gudrenoss_unrank_any(allowed, 0, 0, X), 0);
-    number(gudrenoss_unrank_any(forbidden, 32, 1832624140942590533u, X), ~(uint64_t)0 << 32);
-    refused(gudrenoss_unrank_any(forbidden, 1, 64, X), NO_SUCH_RANK);
-    refused(gudrenoss_unrank_any(allowed, 0, 1, X), NO_SUCH_RANK);
-    refused(gudrenoss_unrank_any(allowed, 64, 1, X), NO_SUCH_RANK);
-    refused(gudrenoss_unrank_any(allowed, 65, 0, X), TOO_WIDE);
+    two(gudrenoss_unrank_over(allowed, 3, 2, 3, X, Y), 3, 9);
+    two(gudrenoss_unrank_over(forbidden, 7, 0, 0, X, Y), 7, 0);
+    two(gudrenoss_unrank_over(allowed, 1, 64, 0, X, Y), 1, top);
+    refused(gudrenoss_unrank_over(allowed, 2, 2, 3, X, Y), NO_SUCH_RANK);
+    refused(gudrenoss_unrank_over(allowed, 2, 0, 1, X, Y), NO_SUCH_RANK);
+    refused(gudrenoss_unrank_over(allowed, 2, 65, 0, X, Y), TOO_WIDE);
+    two(gudrenoss_unrank_any(allowed, 2, 3, X, Y), 63, 9);
+    two(gudrenoss_unrank_any(forbidden, 2, 3, X, Y), 64, 9);
+    two(gudrenoss_unrank_any(forbidden, 1, 63, X, Y), 64, high_bit);
+    two(gudrenoss_unrank_any(allowed, 64, 0, X, Y), 1, top);
+    two(gudrenoss_unrank_any(allowed, 0, 0, X, Y), 64, 0);
+    two(gudrenoss_unrank_any(forbidden, 32, 1832624140942590533u, X, Y), 64, ~(uint64_t)0 << 32);
+    refused(gudrenoss_unrank_any(forbidden, 1, 64, X, Y), NO_SUCH_RANK);
+    refused(gudrenoss_unrank_any(allowed, 0, 1, X, Y), NO_SUCH_RANK);
+    refused(gudrenoss_unrank_any(allowed, 64, 1, X, Y), NO_SUCH_RANK);
+    refused(gudrenoss_unrank_any(allowed, 65, 0, X, Y), TOO_WIDE);
 }
 
 /* Sets the state of a walk in the lent places. */
-static void stand(bool standing, uint64_t at, uint64_t remaining)
+static void stand(bool standing, uint64_t over, uint64_t at, uint64_t remaining)
 {
     before.flag = lent.flag = standing;
-    before.number_0 = lent.number_0 = at;
-    before.number_1 = lent.number_1 = remaining;
+    before.number[0].is = lent.number[0].is = over;
+    before.number[1].is = lent.number[1].is = at;
+    before.number[2].is = lent.number[2].is = remaining;
 }
 
-/* A step from that state gives `bits` and leads to the other. */
-static void steps(int line, bool standing, uint64_t at, uint64_t remaining, uint64_t bits, bool then, uint64_t next)
+/* A step of a walk that stands at the index of n and bits gives that index, and leads to the next bits over n. */
+static void steps(int line, bool family, uint64_t n, uint64_t bits, uint64_t remaining, uint64_t next)
 {
-    stand(standing, at, remaining);
-    gudrenoss_refusal back = gudrenoss_walk_step(remaining % 2, FLAG, X, Y, Z);
-    before.number_2 = bits;
-    looks_signed_two(line, back, then, next, remaining - 1);
+    stand(true, n, bits, remaining);
+    gudrenoss_refusal back = gudrenoss_walk_step(family, FLAG, X, Y, Z, V, W);
+    before.number[3].is = n;
+    before.number[4].is = bits;
+    looks_flag_three(line, back, true, n, next, remaining - 1);
 }
 
-static void stops(int line, bool standing, uint64_t at, uint64_t remaining)
+/* The same where there is no next index: the walk then stands nowhere. */
+static void ends(int line, bool family, uint64_t n, uint64_t bits, uint64_t remaining)
 {
-    stand(standing, at, remaining);
-    look(line, gudrenoss_walk_step(remaining % 2, FLAG, X, Y, Z), GUDRENOSS_LAST, 0);
+    stand(true, n, bits, remaining);
+    gudrenoss_refusal back = gudrenoss_walk_step(family, FLAG, X, Y, Z, V, W);
+    before.number[3].is = n;
+    before.number[4].is = bits;
+    looks_flag_three(line, back, false, 0, 0, remaining - 1);
+}
+
+static void stops(int line, bool family, bool standing, uint64_t n, uint64_t bits, uint64_t remaining, enum gudrenoss_number number)
+{
+    stand(standing, n, bits, remaining);
+    look(line, gudrenoss_walk_step(family, FLAG, X, Y, Z, V, W), number, 0);
 }
 
 static void test_walk(void)
 {
-    sign_and_two(gudrenoss_walk_start(forbidden, 2, 1, FLAG, X, Y), true, 1, 2);
-    sign_and_two(gudrenoss_walk_start(allowed, 3, 2, FLAG, X, Y), true, 3, 6);
-    sign_and_two(gudrenoss_walk_start(allowed, 3, 0, FLAG, X, Y), true, 0, 1);
-    sign_and_two(gudrenoss_walk_start(allowed, 0, 3, FLAG, X, Y), false, 0, 0);
-    sign_and_two(gudrenoss_walk_start(forbidden, 64, 64, FLAG, X, Y), true, top, 1);
-    refused(gudrenoss_walk_start(forbidden, 65, 1, FLAG, X, Y), TOO_WIDE);
-    refused(gudrenoss_walk_start(allowed, 2, 65, FLAG, X, Y), TOO_WIDE);
-    steps(__LINE__, true, 1, 2, 1, true, 2);
-    steps(__LINE__, true, 2, 1, 2, true, 4);
-    steps(__LINE__, true, 0, 1, 0, false, 0);
-    steps(__LINE__, true, 0, 5, 0, false, 0);
-    steps(__LINE__, true, high_bit, 7, high_bit, false, 0);
-    steps(__LINE__, true, 12, top, 12, true, 17);
-    stops(__LINE__, true, 4, 0);
-    stops(__LINE__, false, 0, 4);
-    stops(__LINE__, false, 77, 4);
-    stops(__LINE__, false, 0, 0);
+    flag_and_three(gudrenoss_walk_start(forbidden, 2, 1, FLAG, X, Y, Z), true, 2, 1, 2);
+    flag_and_three(gudrenoss_walk_start(allowed, 3, 2, FLAG, X, Y, Z), true, 3, 3, 6);
+    flag_and_three(gudrenoss_walk_start(allowed, 3, 0, FLAG, X, Y, Z), true, 3, 0, 1);
+    flag_and_three(gudrenoss_walk_start(allowed, 0, 3, FLAG, X, Y, Z), false, 0, 0, 0);
+    flag_and_three(gudrenoss_walk_start(forbidden, 2, 3, FLAG, X, Y, Z), false, 0, 0, 0);
+    flag_and_three(gudrenoss_walk_start(forbidden, 64, 64, FLAG, X, Y, Z), true, 64, top, 1);
+    refused(gudrenoss_walk_start(forbidden, 65, 1, FLAG, X, Y, Z), TOO_WIDE);
+    refused(gudrenoss_walk_start(allowed, 2, 65, FLAG, X, Y, Z), TOO_WIDE);
+    steps(__LINE__, forbidden, 2, 1, 2, 2);
+    steps(__LINE__, forbidden, 3, 2, 1, 4);
+    steps(__LINE__, allowed, 4, 12, top, 17);
+    ends(__LINE__, forbidden, 2, 2, 1);
+    ends(__LINE__, forbidden, 2, 2, 9);
+    ends(__LINE__, allowed, 3, 12, top);
+    ends(__LINE__, forbidden, 64, 0, 1);
+    ends(__LINE__, allowed, 0, 0, 5);
+    ends(__LINE__, forbidden, 64, high_bit, 7);
+    stops(__LINE__, forbidden, true, 3, 4, 0, GUDRENOSS_LAST);
+    stops(__LINE__, forbidden, false, 3, 0, 4, GUDRENOSS_LAST);
+    stops(__LINE__, allowed, false, 65, 77, 4, GUDRENOSS_LAST);
+    stops(__LINE__, allowed, false, 0, 0, 0, GUDRENOSS_LAST);
+    stops(__LINE__, forbidden, true, 2, 4, 1, GUDRENOSS_OUTSIDE);
+    stops(__LINE__, forbidden, true, 2, 4, 0, GUDRENOSS_OUTSIDE);
+    stops(__LINE__, allowed, true, 0, 1, 3, GUDRENOSS_OUTSIDE);
+    stops(__LINE__, allowed, true, 64, 3, 1, GUDRENOSS_TOO_WIDE);
+    stops(__LINE__, allowed, true, top, 3, 0, GUDRENOSS_TOO_WIDE);
 }
 
-/* Each walk gives the indices of ranks 0, 1, 2, .. and as many as there are. */
+/* Each walk gives the indices of ranks 0, 1, 2, .. over its alphabet and as many as there are, and then stands nowhere. */
 static void test_whole_walk(bool family, uint64_t n, uint64_t k)
 {
     bool standing;
-    uint64_t at, remaining, bits, rank = 0, count, degree, other;
-    check(__LINE__, gudrenoss_walk_start(family, n, k, &standing, &at, &remaining).number == GUDRENOSS_OK, "a walk starts");
+    uint64_t over, at, remaining, alphabet, bits, rank = 0, count, degree, other, other_alphabet;
+    check(__LINE__, gudrenoss_walk_start(family, n, k, &standing, &over, &at, &remaining).number == GUDRENOSS_OK, "a walk starts");
     check(__LINE__, gudrenoss_count(family, n, k, &count).number == GUDRENOSS_OK && count == remaining, "a walk has the count to give");
-    while (gudrenoss_walk_step(family, &standing, &at, &remaining, &bits).number == GUDRENOSS_OK) {
-        check(__LINE__, gudrenoss_degree(family, bits, &degree).number == GUDRENOSS_OK && degree == k, "the degree on a walk");
-        check(__LINE__, gudrenoss_rank_of(family, bits, &other).number == GUDRENOSS_OK && other == rank, "the rank on a walk");
-        check(__LINE__, gudrenoss_unrank_over(family, n, k, rank, &other).number == GUDRENOSS_OK && other == bits, "the index of the rank");
+    while (gudrenoss_walk_step(family, &standing, &over, &at, &remaining, &alphabet, &bits).number == GUDRENOSS_OK) {
+        check(__LINE__, alphabet == n, "the alphabet on a walk");
+        check(__LINE__, gudrenoss_degree(family, alphabet, bits, &degree).number == GUDRENOSS_OK && degree == k, "the degree on a walk");
+        check(__LINE__, gudrenoss_rank_of(family, alphabet, bits, &other).number == GUDRENOSS_OK && other == rank, "the rank on a walk");
+        check(__LINE__, gudrenoss_unrank_over(family, n, k, rank, &other_alphabet, &other).number == GUDRENOSS_OK && other == bits
+                && other_alphabet == n, "the index of the rank");
         rank++;
     }
     check(__LINE__, rank == count, "a walk gives the count");
+    check(__LINE__, !standing && over == 0 && at == 0 && remaining == 0, "a walk that is finished stands nowhere");
 }
 
 /* ---- Signed operations ------------------------------------------------------------------------------------------------------ */
 
-static void test_signed(void)
+static void test_canonicalise(void)
 {
-    sign_and(gudrenoss_canonicalise(forbidden, IN(2, 0), FLAG, X), minus, 5);
-    sign_and(gudrenoss_canonicalise(forbidden, IN(2, 0, 1), FLAG, X), plus, 7);
-    sign_and(gudrenoss_canonicalise(allowed, IN(2, 0, 2), FLAG, X), plus, 25);
-    sign_and(gudrenoss_canonicalise(allowed, EMPTY, FLAG, X), plus, 0);
-    sign_and(gudrenoss_canonicalise(forbidden, NULL, 0, FLAG, X), plus, 0);
-    sign_and(gudrenoss_canonicalise(allowed, same(0), 64, FLAG, X), plus, top);
-    refused(gudrenoss_canonicalise(allowed, same(0), 65, FLAG, X), TOO_WIDE);
-    refused(gudrenoss_canonicalise(forbidden, IN(64, 64), FLAG, X), REPEATED);
-    refused(gudrenoss_canonicalise(forbidden, IN(3, 1, 3), FLAG, X), REPEATED);
-    refused(gudrenoss_canonicalise(forbidden, IN(64, 0), FLAG, X), TOO_WIDE);
-    refused(gudrenoss_canonicalise(allowed, IN(63, 0), FLAG, X), TOO_WIDE);
+    flag_and_two(gudrenoss_canonicalise(forbidden, 4, IN(2, 0), FLAG, X, Y), minus, 4, 5);
+    flag_and_two(gudrenoss_canonicalise(forbidden, 64, IN(2, 0, 1), FLAG, X, Y), plus, 64, 7);
+    flag_and_two(gudrenoss_canonicalise(allowed, 3, IN(2, 0, 2), FLAG, X, Y), plus, 3, 25);
+    flag_and_two(gudrenoss_canonicalise(allowed, 0, EMPTY, FLAG, X, Y), plus, 0, 0);
+    flag_and_two(gudrenoss_canonicalise(forbidden, 64, NULL, 0, FLAG, X, Y), plus, 64, 0);
+    flag_and_two(gudrenoss_canonicalise(allowed, 1, same(0), 64, FLAG, X, Y), plus, 1, top);
+    refused(gudrenoss_canonicalise(allowed, 1, same(0), 65, FLAG, X, Y), TOO_WIDE);
+    refused(gudrenoss_canonicalise(forbidden, 65, IN(3, 3), FLAG, X, Y), TOO_WIDE);
+    refused(gudrenoss_canonicalise(allowed, 64, IN(0, 0), FLAG, X, Y), TOO_WIDE);
+    refused(gudrenoss_canonicalise(allowed, top, IN(0, 0), FLAG, X, Y), TOO_WIDE);
+    refused(gudrenoss_canonicalise(forbidden, 64, IN(64, 64), FLAG, X, Y), REPEATED);
+    refused(gudrenoss_canonicalise(forbidden, 4, IN(3, 1, 3), FLAG, X, Y), REPEATED);
+    refused(gudrenoss_canonicalise(forbidden, 3, IN(9, 9), FLAG, X, Y), REPEATED);
+    refused(gudrenoss_canonicalise(forbidden, 64, IN(64, 0), FLAG, X, Y), TOO_WIDE);
+    refused(gudrenoss_canonicalise(forbidden, 3, IN(64, 0), FLAG, X, Y), TOO_WIDE);
+    refused(gudrenoss_canonicalise(allowed, 63, IN(63, 0), FLAG, X, Y), TOO_WIDE);
+    refused(gudrenoss_canonicalise(allowed, 62, IN(62, 0), FLAG, X, Y), OUTSIDE);
+    refused(gudrenoss_canonicalise(forbidden, 3, IN(3, 0), FLAG, X, Y), OUTSIDE);
+}
 
-    sign_and(gudrenoss_merge(forbidden, 2, forbidden, 1, FLAG, X), minus, 3);
-    sign_and(gudrenoss_merge(forbidden, 1, forbidden, 2, FLAG, X), plus, 3);
-    sign_and(gudrenoss_merge(allowed, 9, allowed, 4, FLAG, X), plus, 25);
-    sign_and(gudrenoss_merge(allowed, high_bit, allowed, 0, FLAG, X), plus, high_bit);
-    refused(gudrenoss_merge(allowed, high_bit, allowed, 1, FLAG, X), TOO_WIDE);
-    refused(gudrenoss_merge(allowed, top, allowed, top, FLAG, X), TOO_WIDE);
-    refused(gudrenoss_merge(forbidden, 3, forbidden, 6, FLAG, X), REPEATED);
-    refused(gudrenoss_merge(forbidden, 0, allowed, 0, FLAG, X), FAMILY);
-    refused(gudrenoss_merge(allowed, 3, forbidden, 3, FLAG, X), FAMILY);
+static void test_merge(void)
+{
+    flag_and_two(gudrenoss_merge(forbidden, 2, 2, forbidden, 2, 1, FLAG, X, Y), minus, 2, 3);
+    flag_and_two(gudrenoss_merge(forbidden, 3, 1, forbidden, 5, 2, FLAG, X, Y), plus, 5, 3);
+    flag_and_two(gudrenoss_merge(forbidden, 5, 1, forbidden, 3, 2, FLAG, X, Y), plus, 5, 3);
+    flag_and_two(gudrenoss_merge(allowed, 3, 9, allowed, 3, 4, FLAG, X, Y), plus, 3, 25);
+    flag_and_two(gudrenoss_merge(allowed, 64, high_bit, allowed, 0, 0, FLAG, X, Y), plus, 64, high_bit);
+    flag_and_two(gudrenoss_merge(allowed, 63, 1, allowed, 1, 1, FLAG, X, Y), plus, 63, 3);
+    refused(gudrenoss_merge(allowed, 64, 1, allowed, 1, 1, FLAG, X, Y), TOO_WIDE);
+    refused(gudrenoss_merge(allowed, 64, high_bit, allowed, 64, 1, FLAG, X, Y), TOO_WIDE);
+    refused(gudrenoss_merge(allowed, 64, 0, allowed, 1, 3, FLAG, X, Y), TOO_WIDE);
+    refused(gudrenoss_merge(allowed, 1, top, allowed, 1, top, FLAG, X, Y), TOO_WIDE);
+    refused(gudrenoss_merge(forbidden, 3, 3, forbidden, 3, 6, FLAG, X, Y), REPEATED);
+    refused(gudrenoss_merge(forbidden, 0, 0, allowed, 0, 0, FLAG, X, Y), FAMILY);
+    refused(gudrenoss_merge(allowed, 64, 1, forbidden, 64, 3, FLAG, X, Y), FAMILY);
+    refused(gudrenoss_merge(forbidden, 2, 4, allowed, 1, 1, FLAG, X, Y), OUTSIDE);
+    refused(gudrenoss_merge(allowed, 1, 1, forbidden, 2, 4, FLAG, X, Y), OUTSIDE);
+    refused(gudrenoss_merge(forbidden, 2, 4, allowed, 64, 3, FLAG, X, Y), TOO_WIDE);
+    refused(gudrenoss_merge(allowed, 64, 3, forbidden, 2, 4, FLAG, X, Y), TOO_WIDE);
+    refused(gudrenoss_merge(forbidden, 65, 1, forbidden, 3, 1, FLAG, X, Y), TOO_WIDE);
+    refused(gudrenoss_merge(forbidden, 3, 1, forbidden, top, 1, FLAG, X, Y), TOO_WIDE);
+}
 
-    sign_and_two(gudrenoss_delete(allowed, 22, 1, FLAG, X, Y), plus, 1, 10);
-    sign_and_two(gudrenoss_delete(forbidden, 5 | high_bit, 2, FLAG, X, Y), plus, 63, 5);
-    sign_and_two(gudrenoss_delete(forbidden, 22, 1, FLAG, X, Y), minus, 2, 18);
-    sign_and_two(gudrenoss_delete(allowed, high_bit, 0, FLAG, X, Y), plus, 63, 0);
-    sign_and_two(gudrenoss_delete(allowed, high_bit | high_bit >> 1, 0, FLAG, X, Y), plus, 62, high_bit >> 1);
-    sign_and_two(gudrenoss_delete(allowed, high_bit | high_bit >> 1, 1, FLAG, X, Y), plus, 62, high_bit >> 1);
-    sign_and_two(gudrenoss_delete(forbidden, high_bit, 0, FLAG, X, Y), plus, 63, 0);
-    refused(gudrenoss_delete(forbidden, 22, 3, FLAG, X, Y), OUTSIDE);
-    refused(gudrenoss_delete(allowed, 0, 0, FLAG, X, Y), OUTSIDE);
-    refused(gudrenoss_delete(allowed, top, 64, FLAG, X, Y), OUTSIDE);
+static void test_delete(void)
+{
+    flag_and_three(gudrenoss_delete(allowed, 3, 22, 1, FLAG, X, Y, Z), plus, 1, 3, 10);
+    flag_and_three(gudrenoss_delete(forbidden, 64, 5 | high_bit, 2, FLAG, X, Y, Z), plus, 63, 64, 5);
+    flag_and_three(gudrenoss_delete(forbidden, 5, 22, 1, FLAG, X, Y, Z), minus, 2, 5, 18);
+    flag_and_three(gudrenoss_delete(allowed, 64, high_bit, 0, FLAG, X, Y, Z), plus, 63, 64, 0);
+    flag_and_three(gudrenoss_delete(allowed, 63, high_bit | high_bit >> 1, 0, FLAG, X, Y, Z), plus, 62, 63, high_bit >> 1);
+    flag_and_three(gudrenoss_delete(allowed, 63, high_bit | high_bit >> 1, 1, FLAG, X, Y, Z), plus, 62, 63, high_bit >> 1);
+    flag_and_three(gudrenoss_delete(forbidden, 64, high_bit, 0, FLAG, X, Y, Z), plus, 63, 64, 0);
+    refused(gudrenoss_delete(forbidden, 5, 22, 3, FLAG, X, Y, Z), OUTSIDE);
+    refused(gudrenoss_delete(allowed, 0, 0, 0, FLAG, X, Y, Z), OUTSIDE);
+    refused(gudrenoss_delete(allowed, 1, top, 64, FLAG, X, Y, Z), OUTSIDE);
+    refused(gudrenoss_delete(forbidden, 4, 22, 0, FLAG, X, Y, Z), OUTSIDE);
+    refused(gudrenoss_delete(allowed, 64, high_bit | high_bit >> 1, 0, FLAG, X, Y, Z), TOO_WIDE);
+    refused(gudrenoss_delete(forbidden, 65, 22, 9, FLAG, X, Y, Z), TOO_WIDE);
+}
 
-    sign_and(gudrenoss_complement(forbidden, 5, 4, FLAG, X), minus, 10);
-    sign_and(gudrenoss_complement(forbidden, top, 64, FLAG, X), plus, 0);
-    sign_and(gudrenoss_complement(forbidden, 0, 64, FLAG, X), plus, top);
-    sign_and(gudrenoss_complement(forbidden, 0, 0, FLAG, X), plus, 0);
-    refused(gudrenoss_complement(allowed, 0, 65, FLAG, X), FAMILY);
-    refused(gudrenoss_complement(forbidden, high_bit, 65, FLAG, X), TOO_WIDE);
-    refused(gudrenoss_complement(forbidden, 1, 0, FLAG, X), OUTSIDE);
-    refused(gudrenoss_complement(forbidden, high_bit, 63, FLAG, X), OUTSIDE);
+static void test_complement(void)
+{
+    flag_and_two(gudrenoss_complement(forbidden, 64, 5, 4, FLAG, X, Y), minus, 4, 10);
+    flag_and_two(gudrenoss_complement(forbidden, 3, 5, 4, FLAG, X, Y), minus, 4, 10);
+    flag_and_two(gudrenoss_complement(forbidden, 64, top, 64, FLAG, X, Y), plus, 64, 0);
+    flag_and_two(gudrenoss_complement(forbidden, 64, 0, 64, FLAG, X, Y), plus, 64, top);
+    flag_and_two(gudrenoss_complement(forbidden, 0, 0, 0, FLAG, X, Y), plus, 0, 0);
+    refused(gudrenoss_complement(forbidden, 64, 5, 2, FLAG, X, Y), OUTSIDE);
+    refused(gudrenoss_complement(allowed, 64, 0, 65, FLAG, X, Y), FAMILY);
+    refused(gudrenoss_complement(allowed, 3, 1, 0, FLAG, X, Y), FAMILY);
+    refused(gudrenoss_complement(forbidden, 64, high_bit, 65, FLAG, X, Y), TOO_WIDE);
+    refused(gudrenoss_complement(forbidden, 64, 1, 0, FLAG, X, Y), OUTSIDE);
+    refused(gudrenoss_complement(forbidden, 64, high_bit, 63, FLAG, X, Y), OUTSIDE);
+    refused(gudrenoss_complement(forbidden, 65, 0, 4, FLAG, X, Y), TOO_WIDE);
+    refused(gudrenoss_complement(allowed, 65, 0, 4, FLAG, X, Y), TOO_WIDE);
+    refused(gudrenoss_complement(allowed, 0, 1, 4, FLAG, X, Y), OUTSIDE);
+    refused(gudrenoss_complement(forbidden, 2, 4, 65, FLAG, X, Y), OUTSIDE);
+}
 
-    number(gudrenoss_stabilizer(allowed, 22, X), 2);
-    number(gudrenoss_stabilizer(forbidden, top, X), 1);
-    number(gudrenoss_stabilizer(allowed, 0, X), 1);
-    number(gudrenoss_stabilizer(allowed, 0xfffff, X), 2432902008176640000u);
-    number(gudrenoss_stabilizer(allowed, 0xefffff, X), 14597412049059840000u);
-    refused(gudrenoss_stabilizer(allowed, 0x1efffff, X), TOO_BIG);
-    refused(gudrenoss_stabilizer(allowed, 0x1fffff, X), TOO_BIG);
+static void test_stabilizer(void)
+{
+    number(gudrenoss_stabilizer(allowed, 3, 22, X), 2);
+    number(gudrenoss_stabilizer(forbidden, 64, top, X), 1);
+    number(gudrenoss_stabilizer(allowed, 0, 0, X), 1);
+    number(gudrenoss_stabilizer(allowed, 1, 0xfffff, X), 2432902008176640000u);
+    number(gudrenoss_stabilizer(allowed, 2, 0xefffff, X), 14597412049059840000u);
+    refused(gudrenoss_stabilizer(allowed, 2, 0x1efffff, X), TOO_BIG);
+    refused(gudrenoss_stabilizer(allowed, 1, 0x1fffff, X), TOO_BIG);
+    refused(gudrenoss_stabilizer(allowed, 1, 0xefffff, X), OUTSIDE);
+    refused(gudrenoss_stabilizer(allowed, 1, 0x1efffff, X), OUTSIDE);
+    refused(gudrenoss_stabilizer(allowed, 64, 0x1fffff, X), TOO_WIDE);
 }
 
 /* ---- Sets ------------------------------------------------------------------------------------------------------------------- */
@@ -759,6 +889,7 @@ int main(void)
     test_pack();
     test_unpack();
     test_index();
+    test_successor();
     test_rank();
     test_unrank();
     test_walk();
@@ -767,7 +898,11 @@ int main(void)
     test_whole_walk(allowed, 4, 0);
     test_whole_walk(forbidden, 2, 3);
     test_whole_walk(forbidden, 64, 63);
-    test_signed();
+    test_canonicalise();
+    test_merge();
+    test_delete();
+    test_complement();
+    test_stabilizer();
     test_sets();
     test_permutations();
     test_shapes();

@@ -53,9 +53,41 @@ static uint64_t bits(void)
     }
 }
 
+/* An alphabet for k symbols, the largest of them `least` - 1: mostly one that holds them and is not too wide, often one of the least
+ * and the most that do so, or one past these, sometimes any. */
+static uint64_t alphabet(bool allowed, uint64_t least, uint64_t k)
+{
+    uint64_t widest = allowed && 0 < k && k <= 64 ? 65 - k : 64;
+    switch (below(8)) {
+    case 0: return number(64);
+    case 1: return least - below(2);
+    case 2: return widest + below(2);
+    case 3: return least;
+    case 4: return widest;
+    default: return least < widest ? least + below(widest - least + 1) : least;
+    }
+}
+
+/* An index: any bits, with an alphabet for them. */
+static struct index index_with(bool allowed, uint64_t b)
+{
+    uint64_t least = 0, k = 0;
+    for (uint64_t s = 0; s < 64; s++)
+        if (b >> s & 1) {
+            least = s + 1 - (allowed ? k : 0);
+            k++;
+        }
+    return (struct index){allowed, alphabet(allowed, least, k), b};
+}
+
+static struct index some_index(void)
+{
+    return index_with(coin(), bits());
+}
+
 /* ---- Guarded memory --------------------------------------------------------------------------------------------------------- */
 
-enum { guard = 4, most = 80 };
+enum { guard = 4, most = 80, values = 5 };
 
 /* A list with guards at both ends, and a copy of all of it as it was before the call. */
 struct list {
@@ -74,8 +106,8 @@ struct flag {
 };
 
 static struct list left, right, out;
-static struct place value[3];
-static uint64_t value_before[3];
+static struct place value[values];
+static uint64_t value_before[values];
 static struct flag flag;
 static bool flag_before;
 static const uint64_t low_guard = UINT64_C(0x6c6f772067756172), high_guard = UINT64_C(0x6869676820677561);
@@ -129,7 +161,7 @@ static void fresh(size_t room)
     scramble(&left, 0);
     scramble(&right, 0);
     scramble(&out, room);
-    for (int i = 0; i < 3; i++) {
+    for (int i = 0; i < values; i++) {
         struct place p = {low_guard, any(), high_guard};
         value[i] = p;
     }
@@ -143,7 +175,7 @@ static void ready(void)
     remember(&left);
     remember(&right);
     remember(&out);
-    for (int i = 0; i < 3; i++)
+    for (int i = 0; i < values; i++)
         value_before[i] = value[i].value;
     flag_before = flag.value;
 }
@@ -152,7 +184,7 @@ static void ready(void)
 static bool agrees(gudrenoss_refusal refusal, const struct answer *a)
 {
     bool answered = a->refusal == GUDRENOSS_OK, good = refusal.number == a->refusal && refusal.at == a->at;
-    for (size_t i = 0; i < 3; i++)
+    for (size_t i = 0; i < values; i++)
         good = good && holds(&value[i], answered && i < a->values ? a->value[i] : value_before[i]);
     good = good && flag_holds(answered && a->has_flag ? a->flag : flag_before);
     for (size_t i = 0; answered && i < a->len; i++)
@@ -176,6 +208,16 @@ static void put_word(struct list *l, bool allowed)
     if (below(16) == 0)
         for (size_t i = 0; i < l->len; i++)
             at(l)[i] = number(64);
+}
+
+/* An alphabet for a word. */
+static uint64_t alphabet_for(struct list *l, bool allowed)
+{
+    uint64_t least = 0;
+    for (size_t i = 0; i < l->len; i++)
+        if (at(l)[i] >= least)
+            least = at(l)[i] + 1;
+    return alphabet(allowed, least, l->len);
 }
 
 static void swap(uint64_t *a, uint64_t *b)
@@ -287,37 +329,36 @@ static struct outcome call_pack(void)
     bool allowed = coin();
     fresh(0);
     put_word(&left, allowed);
+    uint64_t n = alphabet_for(&left, allowed);
     ready();
-    return (struct outcome){
-        gudrenoss_pack(allowed, pass(&left), left.len, &value[0].value), model_pack(allowed, at(&left), left.len)};
+    return (struct outcome){gudrenoss_pack(allowed, n, pass(&left), left.len, &value[0].value, &value[1].value),
+        model_pack(allowed, n, at(&left), left.len)};
 }
 
 static struct outcome call_unpack(void)
 {
-    bool allowed = coin();
-    uint64_t b = bits();
+    struct index x = some_index();
     fresh(room());
     ready();
     return (struct outcome){
-        gudrenoss_unpack(allowed, b, pass(&out), out.len, &value[0].value), model_unpack(allowed, b, out.len)};
+        gudrenoss_unpack(x.allowed, x.n, x.bits, pass(&out), out.len, &value[0].value), model_unpack(x, out.len)};
 }
 
 static struct outcome call_degree(void)
 {
-    bool allowed = coin();
-    uint64_t b = bits();
+    struct index x = some_index();
     fresh(0);
     ready();
-    return (struct outcome){gudrenoss_degree(allowed, b, &value[0].value), model_degree(allowed, b)};
+    return (struct outcome){gudrenoss_degree(x.allowed, x.n, x.bits, &value[0].value), model_degree(x)};
 }
 
 static struct outcome call_symbol(void)
 {
-    bool allowed = coin();
-    uint64_t b = bits(), p = number(64);
+    struct index x = some_index();
+    uint64_t p = number(64);
     fresh(0);
     ready();
-    return (struct outcome){gudrenoss_symbol(allowed, b, p, &value[0].value), model_symbol(allowed, b, p)};
+    return (struct outcome){gudrenoss_symbol(x.allowed, x.n, x.bits, p, &value[0].value), model_symbol(x, p)};
 }
 
 static struct outcome call_rank(void)
@@ -332,11 +373,10 @@ static struct outcome call_rank(void)
 
 static struct outcome call_rank_of(void)
 {
-    bool allowed = coin();
-    uint64_t b = bits();
+    struct index x = some_index();
     fresh(0);
     ready();
-    return (struct outcome){gudrenoss_rank_of(allowed, b, &value[0].value), model_rank_of(allowed, b)};
+    return (struct outcome){gudrenoss_rank_of(x.allowed, x.n, x.bits, &value[0].value), model_rank_of(x)};
 }
 
 /* A rank that is often below the count. */
@@ -363,7 +403,7 @@ static struct outcome call_unrank_over(void)
     fresh(0);
     ready();
     return (struct outcome){
-        gudrenoss_unrank_over(allowed, n, k, r, &value[0].value), model_unrank_over(allowed, n, k, r)};
+        gudrenoss_unrank_over(allowed, n, k, r, &value[0].value, &value[1].value), model_unrank_over(allowed, n, k, r)};
 }
 
 static struct outcome call_unrank_any(void)
@@ -372,16 +412,17 @@ static struct outcome call_unrank_any(void)
     uint64_t k = number(64), r = some_rank(false, 64, k);
     fresh(0);
     ready();
-    return (struct outcome){gudrenoss_unrank_any(allowed, k, r, &value[0].value), model_unrank_any(allowed, k, r)};
+    return (struct outcome){
+        gudrenoss_unrank_any(allowed, k, r, &value[0].value, &value[1].value), model_unrank_any(allowed, k, r)};
 }
 
 static struct outcome call_successor(void)
 {
-    bool allowed = coin();
-    uint64_t b = bits();
+    struct index x = some_index();
     fresh(0);
     ready();
-    return (struct outcome){gudrenoss_successor(allowed, b, &value[0].value), model_successor(allowed, b)};
+    return (struct outcome){
+        gudrenoss_successor(x.allowed, x.n, x.bits, &value[0].value, &value[1].value), model_successor(x)};
 }
 
 static struct outcome call_walk_start(void)
@@ -391,20 +432,22 @@ static struct outcome call_walk_start(void)
     fresh(0);
     ready();
     return (struct outcome){
-        gudrenoss_walk_start(allowed, n, k, &flag.value, &value[0].value, &value[1].value), model_walk_start(allowed, n, k)};
+        gudrenoss_walk_start(allowed, n, k, &flag.value, &value[0].value, &value[1].value, &value[2].value),
+        model_walk_start(allowed, n, k)};
 }
 
 static struct outcome call_walk_step(void)
 {
-    bool allowed = coin();
+    struct index x = some_index();
     fresh(0);
     flag.value = below(8) != 0;
-    value[0].value = bits();
-    value[1].value = below(8) == 0 ? 0 : number(64);
+    value[0].value = x.n;
+    value[1].value = x.bits;
+    value[2].value = below(8) == 0 ? 0 : number(64);
     ready();
-    struct answer a = model_walk_step(allowed, flag.value, value[0].value, value[1].value);
-    return (struct outcome){
-        gudrenoss_walk_step(allowed, &flag.value, &value[0].value, &value[1].value, &value[2].value), a};
+    struct answer a = model_walk_step(flag.value, x, value[2].value);
+    return (struct outcome){gudrenoss_walk_step(x.allowed, &flag.value, &value[0].value, &value[1].value, &value[2].value,
+                                &value[3].value, &value[4].value), a};
 }
 
 static struct outcome call_canonicalise(void)
@@ -413,9 +456,11 @@ static struct outcome call_canonicalise(void)
     fresh(0);
     put_word(&left, allowed);
     shuffle(at(&left), left.len);
+    uint64_t n = alphabet_for(&left, allowed);
     ready();
-    return (struct outcome){gudrenoss_canonicalise(allowed, pass(&left), left.len, &flag.value, &value[0].value),
-        model_canonicalise(allowed, at(&left), left.len)};
+    return (struct outcome){
+        gudrenoss_canonicalise(allowed, n, pass(&left), left.len, &flag.value, &value[0].value, &value[1].value),
+        model_canonicalise(allowed, n, at(&left), left.len)};
 }
 
 static struct outcome call_merge(void)
@@ -428,40 +473,42 @@ static struct outcome call_merge(void)
         a >>= below(64);
         b >>= below(64);
     }
+    struct index x = index_with(l, a), y = index_with(r, b);
     fresh(0);
     ready();
-    return (struct outcome){gudrenoss_merge(l, a, r, b, &flag.value, &value[0].value), model_merge(l, a, r, b)};
+    return (struct outcome){gudrenoss_merge(x.allowed, x.n, x.bits, y.allowed, y.n, y.bits, &flag.value, &value[0].value,
+                                &value[1].value), model_merge(x, y)};
 }
 
 static struct outcome call_delete(void)
 {
-    bool allowed = coin();
-    uint64_t b = bits(), p = below(2) ? number(64) : below(65);
+    struct index x = some_index();
+    uint64_t p = below(2) ? number(64) : below(65);
     fresh(0);
     ready();
-    return (struct outcome){
-        gudrenoss_delete(allowed, b, p, &flag.value, &value[0].value, &value[1].value), model_delete(allowed, b, p)};
+    return (struct outcome){gudrenoss_delete(x.allowed, x.n, x.bits, p, &flag.value, &value[0].value, &value[1].value,
+                                &value[2].value), model_delete(x, p)};
 }
 
 static struct outcome call_complement(void)
 {
     bool allowed = below(8) == 0;
-    uint64_t b = bits(), n = below(2) ? number(64) : below(66);
-    if (n < 64 && below(4) != 0)
-        b &= ((uint64_t)1 << n) - 1;
+    uint64_t b = bits(), m = below(2) ? number(64) : below(66);
+    if (m < 64 && below(4) != 0)
+        b &= ((uint64_t)1 << m) - 1;
+    struct index x = index_with(allowed, b);
     fresh(0);
     ready();
     return (struct outcome){
-        gudrenoss_complement(allowed, b, n, &flag.value, &value[0].value), model_complement(allowed, b, n)};
+        gudrenoss_complement(x.allowed, x.n, x.bits, m, &flag.value, &value[0].value, &value[1].value), model_complement(x, m)};
 }
 
 static struct outcome call_stabilizer(void)
 {
-    bool allowed = below(4) != 0;
-    uint64_t b = bits();
+    struct index x = index_with(below(4) != 0, bits());
     fresh(0);
     ready();
-    return (struct outcome){gudrenoss_stabilizer(allowed, b, &value[0].value), model_stabilizer(allowed, b)};
+    return (struct outcome){gudrenoss_stabilizer(x.allowed, x.n, x.bits, &value[0].value), model_stabilizer(x)};
 }
 
 static struct outcome call_set_insert(void)

@@ -10,32 +10,38 @@ struct answer {
     uint64_t refusal, at;
     bool has_flag, flag;
     size_t values;
-    uint64_t value[3];
+    uint64_t value[5];
     size_t len;
     uint64_t list[64];
+};
+
+/* An index as it is passed: any numbers. */
+struct index {
+    bool allowed;
+    uint64_t n, bits;
 };
 
 struct answer model_version(void);
 
 struct answer model_count(bool allowed, uint64_t n, uint64_t k);
-struct answer model_pack(bool allowed, const uint64_t *word, size_t len);
-struct answer model_unpack(bool allowed, uint64_t bits, size_t room);
-struct answer model_degree(bool allowed, uint64_t bits);
-struct answer model_symbol(bool allowed, uint64_t bits, uint64_t p);
+struct answer model_pack(bool allowed, uint64_t n, const uint64_t *word, size_t len);
+struct answer model_unpack(struct index x, size_t room);
+struct answer model_degree(struct index x);
+struct answer model_symbol(struct index x, uint64_t p);
 struct answer model_rank(bool allowed, const uint64_t *word, size_t len);
-struct answer model_rank_of(bool allowed, uint64_t bits);
+struct answer model_rank_of(struct index x);
 struct answer model_unrank(bool allowed, uint64_t n, uint64_t k, uint64_t r, size_t room);
 struct answer model_unrank_over(bool allowed, uint64_t n, uint64_t k, uint64_t r);
 struct answer model_unrank_any(bool allowed, uint64_t k, uint64_t r);
-struct answer model_successor(bool allowed, uint64_t bits);
+struct answer model_successor(struct index x);
 struct answer model_walk_start(bool allowed, uint64_t n, uint64_t k);
-struct answer model_walk_step(bool allowed, bool standing, uint64_t at, uint64_t remaining);
+struct answer model_walk_step(bool standing, struct index at, uint64_t remaining);
 
-struct answer model_canonicalise(bool allowed, const uint64_t *word, size_t len);
-struct answer model_merge(bool left_allowed, uint64_t left, bool right_allowed, uint64_t right);
-struct answer model_delete(bool allowed, uint64_t bits, uint64_t p);
-struct answer model_complement(bool allowed, uint64_t bits, uint64_t n);
-struct answer model_stabilizer(bool allowed, uint64_t bits);
+struct answer model_canonicalise(bool allowed, uint64_t n, const uint64_t *word, size_t len);
+struct answer model_merge(struct index left, struct index right);
+struct answer model_delete(struct index x, uint64_t p);
+struct answer model_complement(struct index x, uint64_t m);
+struct answer model_stabilizer(struct index x);
 
 struct answer model_set_insert(uint64_t set, uint64_t s);
 struct answer model_set_contains(uint64_t set, uint64_t s);

@@ -113,7 +113,8 @@ impl ExactSizeIterator for Members {}
 impl FusedIterator for Members {}
 
 impl From<Combination> for MonoIndex {
+    /// The set as an index over 64, which every set is.
     fn from(set: Combination) -> MonoIndex {
-        MonoIndex::from_bits(Repetition::Forbidden, set.0)
+        MonoIndex::from_bits(Repetition::Forbidden, 64, set.0).expect("every set is a word over 64")
     }
 }

@@ -24,9 +24,11 @@ fn try_rooms(wanted: &[u64], call: impl Fn(&mut [u64], &mut u64) -> Status) {
 
 #[test]
 fn words() {
-    try_rooms(&[0, 2, 2], |word, written| sys::gudrenoss_unpack(true, 25, word, written));
-    try_rooms(&[0, 3, 4], |word, written| sys::gudrenoss_unpack(false, 25, word, written));
-    try_rooms(&[0; 64], |word, written| sys::gudrenoss_unpack(true, u64::MAX, word, written));
+    try_rooms(&[0, 2, 2], |word, written| sys::gudrenoss_unpack(true, 3, 25, word, written));
+    try_rooms(&[0, 3, 4], |word, written| sys::gudrenoss_unpack(false, 5, 25, word, written));
+    try_rooms(&[0; 64], |word, written| {
+        sys::gudrenoss_unpack(true, 1, u64::MAX, word, written)
+    });
     try_rooms(&[0, 2], |word, written| sys::gudrenoss_unrank(true, 3, 2, 3, word, written));
     try_rooms(&[7; 9], |word, written| {
         sys::gudrenoss_unrank(true, 8, 9, 11439, word, written)

@@ -28,39 +28,62 @@ unsafe extern "C" {
     pub safe fn gudrenoss_version(major: &mut u64, minor: &mut u64, patch: &mut u64) -> Status;
 
     pub safe fn gudrenoss_count(allowed: bool, n: u64, k: u64, count: &mut u64) -> Status;
-    pub safe fn gudrenoss_degree(allowed: bool, bits: u64, degree: &mut u64) -> Status;
-    pub safe fn gudrenoss_symbol(allowed: bool, bits: u64, p: u64, symbol: &mut u64) -> Status;
-    pub safe fn gudrenoss_rank_of(allowed: bool, bits: u64, rank: &mut u64) -> Status;
-    pub safe fn gudrenoss_unrank_over(allowed: bool, n: u64, k: u64, r: u64, bits: &mut u64) -> Status;
-    pub safe fn gudrenoss_unrank_any(allowed: bool, k: u64, r: u64, bits: &mut u64) -> Status;
-    pub safe fn gudrenoss_successor(allowed: bool, bits: u64, next: &mut u64) -> Status;
+    pub safe fn gudrenoss_degree(allowed: bool, n: u64, bits: u64, degree: &mut u64) -> Status;
+    pub safe fn gudrenoss_symbol(allowed: bool, n: u64, bits: u64, p: u64, symbol: &mut u64) -> Status;
+    pub safe fn gudrenoss_rank_of(allowed: bool, n: u64, bits: u64, rank: &mut u64) -> Status;
+    pub safe fn gudrenoss_unrank_over(allowed: bool, n: u64, k: u64, r: u64, alphabet: &mut u64, bits: &mut u64) -> Status;
+    pub safe fn gudrenoss_unrank_any(allowed: bool, k: u64, r: u64, alphabet: &mut u64, bits: &mut u64) -> Status;
+    pub safe fn gudrenoss_successor(allowed: bool, n: u64, bits: u64, next_alphabet: &mut u64, next_bits: &mut u64) -> Status;
     pub safe fn gudrenoss_walk_start(
         allowed: bool,
         n: u64,
         k: u64,
         standing: &mut bool,
+        over: &mut u64,
         at: &mut u64,
         remaining: &mut u64,
     ) -> Status;
     pub safe fn gudrenoss_walk_step(
         allowed: bool,
         standing: &mut bool,
+        over: &mut u64,
         at: &mut u64,
         remaining: &mut u64,
+        alphabet: &mut u64,
         bits: &mut u64,
     ) -> Status;
 
     pub safe fn gudrenoss_merge(
         left_allowed: bool,
+        left_n: u64,
         left_bits: u64,
         right_allowed: bool,
+        right_n: u64,
         right_bits: u64,
         minus: &mut bool,
+        alphabet: &mut u64,
         bits: &mut u64,
     ) -> Status;
-    pub safe fn gudrenoss_delete(allowed: bool, bits: u64, p: u64, minus: &mut bool, symbol: &mut u64, rest: &mut u64) -> Status;
-    pub safe fn gudrenoss_complement(allowed: bool, bits: u64, n: u64, minus: &mut bool, rest: &mut u64) -> Status;
-    pub safe fn gudrenoss_stabilizer(allowed: bool, bits: u64, stabilizer: &mut u64) -> Status;
+    pub safe fn gudrenoss_delete(
+        allowed: bool,
+        n: u64,
+        bits: u64,
+        p: u64,
+        minus: &mut bool,
+        symbol: &mut u64,
+        rest_alphabet: &mut u64,
+        rest_bits: &mut u64,
+    ) -> Status;
+    pub safe fn gudrenoss_complement(
+        allowed: bool,
+        n: u64,
+        bits: u64,
+        m: u64,
+        minus: &mut bool,
+        rest_alphabet: &mut u64,
+        rest_bits: &mut u64,
+    ) -> Status;
+    pub safe fn gudrenoss_stabilizer(allowed: bool, n: u64, bits: u64, stabilizer: &mut u64) -> Status;
 
     pub safe fn gudrenoss_set_insert(set: u64, s: u64, with: &mut u64) -> Status;
     pub safe fn gudrenoss_set_contains(set: u64, s: u64, contains: &mut bool) -> Status;
@@ -121,11 +144,11 @@ macro_rules! with_slices {
 }
 
 with_slices! {
-    fn gudrenoss_pack(allowed: bool, [word], bits: &mut u64);
-    fn gudrenoss_unpack(allowed: bool, bits: u64, {word}, written: &mut u64);
+    fn gudrenoss_pack(allowed: bool, n: u64, [word], alphabet: &mut u64, bits: &mut u64);
+    fn gudrenoss_unpack(allowed: bool, n: u64, bits: u64, {word}, written: &mut u64);
     fn gudrenoss_rank(allowed: bool, [word], rank: &mut u64);
     fn gudrenoss_unrank(allowed: bool, n: u64, k: u64, r: u64, {word}, written: &mut u64);
-    fn gudrenoss_canonicalise(allowed: bool, [word], minus: &mut bool, bits: &mut u64);
+    fn gudrenoss_canonicalise(allowed: bool, n: u64, [word], minus: &mut bool, alphabet: &mut u64, bits: &mut u64);
     fn gudrenoss_shape_count([radices], count: &mut u64);
     fn gudrenoss_shape_strides([radices], {strides}, written: &mut u64);
     fn gudrenoss_shape_linearize([radices], [digits], number: &mut u64);

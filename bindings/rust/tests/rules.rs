@@ -6,12 +6,12 @@ use gudrenoss::{Combination, Composition, MonoIndex, Permutation, Radix, Refusal
 const TOP: u64 = u64::MAX;
 const HIGH_BIT: u64 = 1 << 63;
 
-fn set(bits: u64) -> MonoIndex {
-    MonoIndex::from_bits(Forbidden, bits)
+fn set(nsymbols: u64, bits: u64) -> MonoIndex {
+    MonoIndex::from_bits(Forbidden, nsymbols, bits).unwrap()
 }
 
-fn multiset(bits: u64) -> MonoIndex {
-    MonoIndex::from_bits(Allowed, bits)
+fn multiset(nsymbols: u64, bits: u64) -> MonoIndex {
+    MonoIndex::from_bits(Allowed, nsymbols, bits).unwrap()
 }
 
 #[test]
@@ -43,33 +43,61 @@ fn words_and_ranks() {
 }
 
 #[test]
+fn indices_of_words() {
+    assert_eq!(MonoIndex::new(Allowed, 3, &[1, 1, 2]), Ok(multiset(3, 22)));
+    assert_eq!(MonoIndex::new(Forbidden, 4, &[0, 2]), Ok(set(4, 5)));
+    assert_eq!(MonoIndex::new(Allowed, 3, &[2, 1]), Err(Refusal::NotMonotone { at: 1 }));
+    assert_eq!(MonoIndex::new(Allowed, 3, &[0, 2, 2, 1]), Err(Refusal::NotMonotone { at: 3 }));
+    assert_eq!(
+        MonoIndex::new(Forbidden, 3, &[0, 2, 2, 1]),
+        Err(Refusal::NotMonotone { at: 2 })
+    );
+    assert_eq!(MonoIndex::new(Allowed, 63, &[0, 63]), Err(Refusal::TooWide));
+    assert_eq!(MonoIndex::new(Forbidden, 65, &[]), Err(Refusal::TooWide));
+    assert_eq!(MonoIndex::new(Allowed, 64, &[0, 0]), Err(Refusal::TooWide));
+    assert_eq!(MonoIndex::new(Forbidden, 3, &[64]), Err(Refusal::TooWide));
+    assert_eq!(MonoIndex::new(Forbidden, 3, &[3]), Err(Refusal::Outside));
+}
+
+#[test]
+fn indices_are_checked() {
+    assert_eq!(MonoIndex::try_from((Forbidden, 4, 5)), Ok(set(4, 5)));
+    assert_eq!(MonoIndex::from_bits(Forbidden, 0, 0), Ok(MonoIndex::default()));
+    assert_eq!(MonoIndex::from_bits(Allowed, 1, TOP).map(MonoIndex::degree), Ok(64));
+    assert_eq!(MonoIndex::from_bits(Forbidden, 2, 4), Err(Refusal::Outside));
+    assert_eq!(MonoIndex::from_bits(Allowed, 0, 1), Err(Refusal::Outside));
+    assert_eq!(MonoIndex::from_bits(Allowed, 64, 3), Err(Refusal::TooWide));
+    assert_eq!(MonoIndex::try_from((Allowed, TOP, 3)), Err(Refusal::TooWide));
+    assert_eq!(MonoIndex::try_from((Forbidden, 65, 0)), Err(Refusal::TooWide));
+}
+
+#[test]
 fn indices() {
-    assert_eq!(MonoIndex::new(Allowed, &[1, 1, 2]), Ok(multiset(22)));
-    assert_eq!(MonoIndex::new(Forbidden, &[0, 2]), Ok(set(5)));
-    assert_eq!(MonoIndex::new(Allowed, &[2, 1]), Err(Refusal::NotMonotone { at: 1 }));
-    assert_eq!(MonoIndex::new(Allowed, &[0, 2, 2, 1]), Err(Refusal::NotMonotone { at: 3 }));
-    assert_eq!(MonoIndex::new(Forbidden, &[0, 2, 2, 1]), Err(Refusal::NotMonotone { at: 2 }));
-    assert_eq!(MonoIndex::new(Allowed, &[0, 63]), Err(Refusal::TooWide));
-    assert_eq!(multiset(25).word(), [0, 2, 2]);
-    assert_eq!(set(25).word(), [0, 3, 4]);
-    assert_eq!(set(TOP).word().len(), 64);
-    assert_eq!((set(TOP).degree(), set(0).degree()), (64, 0));
-    assert_eq!(multiset(25).repetition(), Allowed);
-    assert_eq!(multiset(25).shifted_bits(), 25);
-    assert_eq!(multiset(6).symbol(1), Ok(1));
-    assert_eq!(set(6).symbol(1), Ok(2));
-    assert_eq!(set(6).symbol(2), Err(Refusal::Outside));
-    assert_eq!((set(10).rank(), multiset(6).rank()), (4, 2));
-    assert_eq!(MonoIndex::from_rank(Allowed, 2, 3), Ok(multiset(9)));
+    assert_eq!(multiset(3, 25).word(), [0, 2, 2]);
+    assert_eq!(set(5, 25).word(), [0, 3, 4]);
+    assert_eq!(set(64, TOP).word().len(), 64);
+    assert_eq!((set(64, TOP).degree(), set(0, 0).degree()), (64, 0));
+    assert_eq!(multiset(3, 25).repetition(), Allowed);
+    assert_eq!((multiset(3, 25).nsymbols(), multiset(3, 25).shifted_bits()), (3, 25));
+    assert_ne!(multiset(3, 25), multiset(4, 25));
+    assert_eq!(multiset(2, 6).symbol(1), Ok(1));
+    assert_eq!(set(3, 6).symbol(1), Ok(2));
+    assert_eq!(set(3, 6).symbol(2), Err(Refusal::Outside));
+    assert_eq!((set(4, 10).rank(), set(64, 10).rank(), multiset(2, 6).rank()), (4, 4, 2));
+    assert_eq!(MonoIndex::from_rank(Allowed, 2, 3), Ok(multiset(63, 9)));
+    assert_eq!(MonoIndex::from_rank(Allowed, 0, 0), Ok(multiset(64, 0)));
+    assert_eq!(MonoIndex::from_rank(Forbidden, 2, 3), Ok(set(64, 9)));
     assert_eq!(MonoIndex::from_rank(Forbidden, 1, 64), Err(Refusal::NoSuchRank));
     assert_eq!(MonoIndex::from_rank(Forbidden, 65, 0), Err(Refusal::TooWide));
-    assert_eq!(MonoIndex::from_rank_over(Allowed, 3, 2, 3), Ok(multiset(9)));
+    assert_eq!(MonoIndex::from_rank_over(Allowed, 3, 2, 3), Ok(multiset(3, 9)));
     assert_eq!(MonoIndex::from_rank_over(Allowed, 2, 2, 3), Err(Refusal::NoSuchRank));
     assert_eq!(MonoIndex::from_rank_over(Allowed, 65, 0, 0), Err(Refusal::TooWide));
-    assert_eq!(set(3).colex_successor(), Ok(set(5)));
-    assert_eq!(set(HIGH_BIT >> 1).colex_successor(), Ok(set(HIGH_BIT)));
-    assert_eq!(set(HIGH_BIT).colex_successor(), Err(Refusal::Last));
-    assert_eq!(multiset(0).colex_successor(), Err(Refusal::Last));
+    assert_eq!(set(64, 3).colex_successor(), Ok(set(64, 5)));
+    assert_eq!(multiset(4, 12).colex_successor(), Ok(multiset(4, 17)));
+    assert_eq!(multiset(3, 12).colex_successor(), Err(Refusal::Last));
+    assert_eq!(set(64, HIGH_BIT >> 1).colex_successor(), Ok(set(64, HIGH_BIT)));
+    assert_eq!(set(64, HIGH_BIT).colex_successor(), Err(Refusal::Last));
+    assert_eq!(multiset(3, 0).colex_successor(), Err(Refusal::Last));
 }
 
 #[test]
@@ -88,6 +116,7 @@ fn walks() {
         for rank in 0..count {
             let index = walk.step().unwrap();
             assert_eq!((index.rank(), index.degree(), index.repetition()), (rank, degree, repetition));
+            assert_eq!(index.nsymbols(), nsymbols);
             assert_eq!(walk.remaining(), count - rank - 1);
         }
         assert_eq!(walk.step(), Err(Refusal::Last));
@@ -98,30 +127,37 @@ fn walks() {
 
 #[test]
 fn signed_operations() {
-    assert_eq!(MonoIndex::from_word(Forbidden, &[2, 0]), Ok((Sign::Neg, set(5))));
-    assert_eq!(MonoIndex::from_word(Allowed, &[2, 0, 2]), Ok((Sign::Pos, multiset(25))));
-    assert_eq!(MonoIndex::from_word(Forbidden, &[64, 64]), Err(Refusal::Repeated));
-    assert_eq!(MonoIndex::from_word(Forbidden, &[64, 0]), Err(Refusal::TooWide));
+    assert_eq!(MonoIndex::from_word(Forbidden, 4, &[2, 0]), Ok((Sign::Neg, set(4, 5))));
+    assert_eq!(MonoIndex::from_word(Allowed, 3, &[2, 0, 2]), Ok((Sign::Pos, multiset(3, 25))));
+    assert_eq!(MonoIndex::from_word(Forbidden, 64, &[64, 64]), Err(Refusal::Repeated));
+    assert_eq!(MonoIndex::from_word(Forbidden, 64, &[64, 0]), Err(Refusal::TooWide));
+    assert_eq!(MonoIndex::from_word(Forbidden, 65, &[3, 3]), Err(Refusal::TooWide));
+    assert_eq!(MonoIndex::from_word(Forbidden, 3, &[3, 0]), Err(Refusal::Outside));
 
-    assert_eq!(set(2).merge(set(1)), Ok((Sign::Neg, set(3))));
-    assert_eq!(multiset(9).merge(multiset(4)), Ok((Sign::Pos, multiset(25))));
-    assert_eq!(set(0).merge(multiset(0)), Err(Refusal::Family));
-    assert_eq!(set(3).merge(set(6)), Err(Refusal::Repeated));
-    assert_eq!(multiset(HIGH_BIT).merge(multiset(1)), Err(Refusal::TooWide));
+    assert_eq!(set(2, 2).merge(set(2, 1)), Ok((Sign::Neg, set(2, 3))));
+    assert_eq!(set(5, 1).merge(set(3, 2)), Ok((Sign::Pos, set(5, 3))));
+    assert_eq!(set(3, 1).merge(set(5, 2)), Ok((Sign::Pos, set(5, 3))));
+    assert_eq!(multiset(3, 9).merge(multiset(3, 4)), Ok((Sign::Pos, multiset(3, 25))));
+    assert_eq!(set(0, 0).merge(multiset(0, 0)), Err(Refusal::Family));
+    assert_eq!(set(3, 3).merge(set(3, 6)), Err(Refusal::Repeated));
+    assert_eq!(multiset(64, HIGH_BIT).merge(multiset(64, 1)), Err(Refusal::TooWide));
+    assert_eq!(multiset(64, 0).merge(multiset(1, 3)), Err(Refusal::TooWide));
 
-    assert_eq!(multiset(22).deletion(1), Ok((Sign::Pos, 1, multiset(10))));
-    assert_eq!(set(22).deletion(1), Ok((Sign::Neg, 2, set(18))));
-    assert_eq!(set(5 | HIGH_BIT).deletion(2), Ok((Sign::Pos, 63, set(5))));
-    assert_eq!(set(22).deletion(3), Err(Refusal::Outside));
+    assert_eq!(multiset(3, 22).deletion(1), Ok((Sign::Pos, 1, multiset(3, 10))));
+    assert_eq!(set(5, 22).deletion(1), Ok((Sign::Neg, 2, set(5, 18))));
+    assert_eq!(set(64, 5 | HIGH_BIT).deletion(2), Ok((Sign::Pos, 63, set(64, 5))));
+    assert_eq!(set(5, 22).deletion(3), Err(Refusal::Outside));
 
-    assert_eq!(set(5).complement_signed(4), Ok((Sign::Neg, set(10))));
-    assert_eq!(multiset(0).complement_signed(65), Err(Refusal::Family));
-    assert_eq!(set(HIGH_BIT).complement_signed(65), Err(Refusal::TooWide));
-    assert_eq!(set(1).complement_signed(0), Err(Refusal::Outside));
+    assert_eq!(set(64, 5).complement_signed(4), Ok((Sign::Neg, set(4, 10))));
+    assert_eq!(set(3, 5).complement_signed(4), Ok((Sign::Neg, set(4, 10))));
+    assert_eq!(set(64, 5).complement_signed(2), Err(Refusal::Outside));
+    assert_eq!(multiset(0, 0).complement_signed(65), Err(Refusal::Family));
+    assert_eq!(set(64, HIGH_BIT).complement_signed(65), Err(Refusal::TooWide));
+    assert_eq!(set(1, 1).complement_signed(0), Err(Refusal::Outside));
 
-    assert_eq!(multiset(22).stabilizer(), Ok(2));
-    assert_eq!(set(TOP).stabilizer(), Ok(1));
-    assert_eq!(multiset(0x1fffff).stabilizer(), Err(Refusal::TooBig));
+    assert_eq!(multiset(3, 22).stabilizer(), Ok(2));
+    assert_eq!(set(64, TOP).stabilizer(), Ok(1));
+    assert_eq!(multiset(1, 0x1fffff).stabilizer(), Err(Refusal::TooBig));
 }
 
 #[test]
@@ -159,7 +195,7 @@ fn members_and_texts() {
         format!("{odd} {} {}", Combination::default(), Allowed),
         "{1, 3, 5} {} allowed"
     );
-    let word = multiset(25).word();
+    let word = multiset(3, 25).word();
     assert_eq!(
         (&word).into_iter().copied().collect::<Vec<_>>(),
         word.into_iter().collect::<Vec<_>>()
@@ -170,7 +206,7 @@ fn members_and_texts() {
         format!("{word} {} {}", Permutation::new(&[1, 0]), Composition::new(&[3, 0]).unwrap()),
         "0 2 2 1 0 3 0"
     );
-    let words: std::collections::HashSet<_> = [multiset(25).word(), word, set(25).word()].into_iter().collect();
+    let words: std::collections::HashSet<_> = [multiset(3, 25).word(), word, set(5, 25).word()].into_iter().collect();
     assert_eq!(words.len(), 2);
     let orders: std::collections::HashSet<_> = [Permutation::new(&[1, 0]), Permutation::from_rank(2, 0).unwrap()]
         .into_iter()
