@@ -1,5 +1,6 @@
 // Times rank, successor and unrank: the Rust original beside this port's static library, on the same inputs, in one program. Both sides are
-// functions of one shape, that of the C boundary, and neither is inlined; so both pay for one call.
+// functions of one shape, that of the C boundary, and neither is inlined; so both pay for one call. An index is here over the alphabet 64, which
+// this side tests and the original, which has none, does not look at.
 //
 //   sample     two hundred thousand numbers with so many ones, from a fixed seed
 //   race       the least time of each side over a number of rounds, in turns, after both gave the same answers
@@ -20,26 +21,30 @@ struct Status {
 const ANSWER: Status = Status { number: 0, at: 0 };
 const LAST: Status = Status { number: 4, at: 0 };
 
+// The alphabet of every index here.
+const WIDEST: u64 = 64;
+
 #[link(name = "capi", kind = "static")]
 unsafe extern "C" {
-    fn gudrenoss_rank_of(allowed: bool, bits: u64, rank: &mut u64) -> Status;
-    fn gudrenoss_successor(allowed: bool, bits: u64, next: &mut u64) -> Status;
-    fn gudrenoss_unrank_any(allowed: bool, k: u64, r: u64, bits: &mut u64) -> Status;
+    fn gudrenoss_rank_of(allowed: bool, n: u64, bits: u64, rank: &mut u64) -> Status;
+    fn gudrenoss_successor(allowed: bool, n: u64, bits: u64, next_alphabet: &mut u64, next_bits: &mut u64) -> Status;
+    fn gudrenoss_unrank_any(allowed: bool, k: u64, r: u64, alphabet: &mut u64, bits: &mut u64) -> Status;
 }
 
 // ---- the other side, as functions of the same shape
 
 #[inline(never)]
-extern "C" fn their_rank(_: bool, bits: u64, rank: &mut u64) -> Status {
+extern "C" fn their_rank(_: bool, _: u64, bits: u64, rank: &mut u64) -> Status {
     *rank = MonoIndex::from(Combination::from_bits(bits)).rank() as u64;
     ANSWER
 }
 
 #[inline(never)]
-extern "C" fn their_successor(_: bool, bits: u64, next: &mut u64) -> Status {
+extern "C" fn their_successor(_: bool, n: u64, bits: u64, next_alphabet: &mut u64, next_bits: &mut u64) -> Status {
     match MonoIndex::from(Combination::from_bits(bits)).colex_successor() {
         Some(index) => {
-            *next = index.shifted_bits();
+            *next_alphabet = n;
+            *next_bits = index.shifted_bits();
             ANSWER
         }
         None => LAST,
@@ -47,7 +52,8 @@ extern "C" fn their_successor(_: bool, bits: u64, next: &mut u64) -> Status {
 }
 
 #[inline(never)]
-extern "C" fn their_unrank(_: bool, k: u64, r: u64, bits: &mut u64) -> Status {
+extern "C" fn their_unrank(_: bool, k: u64, r: u64, alphabet: &mut u64, bits: &mut u64) -> Status {
+    *alphabet = WIDEST;
     *bits = MonoIndex::from_rank(Repetition::Forbidden, k as usize, r as usize).shifted_bits();
     ANSWER
 }
@@ -80,13 +86,13 @@ fn sample(degrees: &[u64]) -> Vec<(u64, u64)> {
 
 // ---- the race
 
-fn timed(call: impl Fn(u64, u64, &mut u64) -> Status, inputs: &[(u64, u64)]) -> (Duration, u64) {
+fn timed(call: impl Fn(u64, u64, &mut u64, &mut u64) -> Status, inputs: &[(u64, u64)]) -> (Duration, u64) {
     let start = Instant::now();
     let mut sum = 0u64;
     for &(a, b) in inputs {
-        let mut out = 0;
-        let back = call(a, b, &mut out);
-        sum = sum.wrapping_mul(31).wrapping_add(back.number).wrapping_add(back.at).wrapping_add(out);
+        let (mut alphabet, mut out) = (0, 0);
+        let back = call(a, b, &mut alphabet, &mut out);
+        sum = sum.wrapping_mul(31).wrapping_add(back.number).wrapping_add(back.at).wrapping_add(alphabet).wrapping_add(out);
     }
     (start.elapsed(), sum)
 }
@@ -95,8 +101,8 @@ fn race(
     name: &str,
     group: &str,
     inputs: &[(u64, u64)],
-    ours: impl Fn(u64, u64, &mut u64) -> Status,
-    theirs: impl Fn(u64, u64, &mut u64) -> Status,
+    ours: impl Fn(u64, u64, &mut u64, &mut u64) -> Status,
+    theirs: impl Fn(u64, u64, &mut u64, &mut u64) -> Status,
 ) {
     let (mut here, mut there) = (Duration::MAX, Duration::MAX);
     for _ in 0..ROUNDS {
@@ -112,7 +118,7 @@ fn race(
 
 fn rank_of(bits: u64) -> u64 {
     let mut rank = 0;
-    unsafe { gudrenoss_rank_of(false, bits, &mut rank) };
+    unsafe { gudrenoss_rank_of(false, WIDEST, bits, &mut rank) };
     rank
 }
 
@@ -121,9 +127,27 @@ fn main() {
     let mixed: Vec<u64> = (1..=12).collect();
     for (group, degrees) in [("1-12", &mixed[..]), ("2", &[2]), ("6", &[6]), ("12", &[12]), ("32", &[32]), ("48", &[48])] {
         let sets = sample(degrees);
-        race("rank", group, &sets, |a, _, out| unsafe { gudrenoss_rank_of(false, a, out) }, |a, _, out| their_rank(false, a, out));
-        race("successor", group, &sets, |a, _, out| unsafe { gudrenoss_successor(false, a, out) }, |a, _, out| their_successor(false, a, out));
+        race(
+            "rank",
+            group,
+            &sets,
+            |a, _, _, out| unsafe { gudrenoss_rank_of(false, WIDEST, a, out) },
+            |a, _, _, out| their_rank(false, WIDEST, a, out),
+        );
+        race(
+            "successor",
+            group,
+            &sets,
+            |a, _, n, out| unsafe { gudrenoss_successor(false, WIDEST, a, n, out) },
+            |a, _, n, out| their_successor(false, WIDEST, a, n, out),
+        );
         let ranks: Vec<(u64, u64)> = sets.iter().map(|&(bits, k)| (k, rank_of(bits))).collect();
-        race("unrank", group, &ranks, |k, r, out| unsafe { gudrenoss_unrank_any(false, k, r, out) }, |k, r, out| their_unrank(false, k, r, out));
+        race(
+            "unrank",
+            group,
+            &ranks,
+            |k, r, n, out| unsafe { gudrenoss_unrank_any(false, k, r, n, out) },
+            |k, r, n, out| their_unrank(false, k, r, n, out),
+        );
     }
 }

@@ -92,7 +92,13 @@ static uint64_t pattern(unsigned k, unsigned kind)
 
 #define PATTERNS 4
 
-static uint64_t word[80], other[80], out[80], a, b, c;
+/* The widest alphabet that k symbols of a family may have. */
+static uint64_t widest(unsigned f, unsigned k)
+{
+    return f && k > 0 ? 65 - k : 64;
+}
+
+static uint64_t word[80], other[80], out[80], a, b, c, d, e;
 static bool yes, sign;
 
 static void version(void)
@@ -117,21 +123,21 @@ static void terms(void)
                     about("gudrenoss_unrank", "allowed %u, n %lu, k %lu, r %lu", f, n, k, ranks[i]);
                     CALL(gudrenoss_unrank(f, n, k, ranks[i], out, 64, &a));
                     about("gudrenoss_unrank_over", "allowed %u, n %lu, k %lu, r %lu", f, n, k, ranks[i]);
-                    CALL(gudrenoss_unrank_over(f, n, k, ranks[i], &a));
+                    CALL(gudrenoss_unrank_over(f, n, k, ranks[i], &a, &b));
                 }
                 about("gudrenoss_walk_start", "allowed %u, n %lu, k %lu", f, n, k);
-                CALL(gudrenoss_walk_start(f, n, k, &yes, &a, &b));
+                CALL(gudrenoss_walk_start(f, n, k, &yes, &a, &b, &c));
             }
         }
         for (unsigned k = 0; k <= 65; k++) {
-            uint64_t n = f && k > 0 ? 65 - k : 64, count = 0;
+            uint64_t n = widest(f, k), count = 0;
             if (gudrenoss_count(f, n, k, &count).number != 0) {
                 count = 1;
             }
             uint64_t ranks[4] = {0, count - 1, below(count), count};
             for (unsigned i = 0; i < 4; i++) {
                 about("gudrenoss_unrank_any", "allowed %u, k %u, r %lu", f, k, ranks[i]);
-                CALL(gudrenoss_unrank_any(f, k, ranks[i], &a));
+                CALL(gudrenoss_unrank_any(f, k, ranks[i], &a, &b));
             }
         }
     }
@@ -142,34 +148,34 @@ static void words(void)
     for (unsigned f = 0; f < 2; f++) {
         for (unsigned k = 0; k <= 64; k++) {
             for (unsigned kind = 0; kind < PATTERNS; kind++) {
-                uint64_t bits = pattern(k, kind), written;
-                about("gudrenoss_unpack", "allowed %u, bits %lu", f, bits);
-                CALL(gudrenoss_unpack(f, bits, word, 64, &a));
+                uint64_t bits = pattern(k, kind), n = widest(f, k), written;
+                about("gudrenoss_unpack", "allowed %u, n %lu, bits %lu", f, n, bits);
+                CALL(gudrenoss_unpack(f, n, bits, word, 64, &a));
                 written = a;
-                about("gudrenoss_pack", "allowed %u, the word of bits %lu", f, bits);
-                CALL(gudrenoss_pack(f, word, written, &a));
+                about("gudrenoss_pack", "allowed %u, n %lu, the word of bits %lu", f, n, bits);
+                CALL(gudrenoss_pack(f, n, word, written, &a, &b));
                 about("gudrenoss_rank", "allowed %u, the word of bits %lu", f, bits);
                 CALL(gudrenoss_rank(f, word, written, &a));
-                about("gudrenoss_rank_of", "allowed %u, bits %lu", f, bits);
-                CALL(gudrenoss_rank_of(f, bits, &a));
-                about("gudrenoss_degree", "allowed %u, bits %lu", f, bits);
-                CALL(gudrenoss_degree(f, bits, &a));
-                about("gudrenoss_successor", "allowed %u, bits %lu", f, bits);
-                CALL(gudrenoss_successor(f, bits, &a));
-                yes = true, a = bits, b = 5;
-                about("gudrenoss_walk_step", "allowed %u, bits %lu", f, bits);
-                CALL(gudrenoss_walk_step(f, &yes, &a, &b, &c));
-                about("gudrenoss_stabilizer", "allowed %u, bits %lu", f, bits);
-                CALL(gudrenoss_stabilizer(f, bits, &a));
+                about("gudrenoss_rank_of", "allowed %u, n %lu, bits %lu", f, n, bits);
+                CALL(gudrenoss_rank_of(f, n, bits, &a));
+                about("gudrenoss_degree", "allowed %u, n %lu, bits %lu", f, n, bits);
+                CALL(gudrenoss_degree(f, n, bits, &a));
+                about("gudrenoss_successor", "allowed %u, n %lu, bits %lu", f, n, bits);
+                CALL(gudrenoss_successor(f, n, bits, &a, &b));
+                yes = true, a = n, b = bits, c = 5;
+                about("gudrenoss_walk_step", "allowed %u, n %lu, bits %lu", f, n, bits);
+                CALL(gudrenoss_walk_step(f, &yes, &a, &b, &c, &d, &e));
+                about("gudrenoss_stabilizer", "allowed %u, n %lu, bits %lu", f, n, bits);
+                CALL(gudrenoss_stabilizer(f, n, bits, &a));
                 uint64_t places[3] = {0, k == 0 ? 0 : k - 1, k / 2};
                 for (unsigned i = 0; i < 3; i++) {
-                    about("gudrenoss_symbol", "allowed %u, bits %lu, p %lu", f, bits, places[i]);
-                    CALL(gudrenoss_symbol(f, bits, places[i], &a));
-                    about("gudrenoss_delete", "allowed %u, bits %lu, p %lu", f, bits, places[i]);
-                    CALL(gudrenoss_delete(f, bits, places[i], &sign, &a, &b));
+                    about("gudrenoss_symbol", "allowed %u, n %lu, bits %lu, p %lu", f, n, bits, places[i]);
+                    CALL(gudrenoss_symbol(f, n, bits, places[i], &a));
+                    about("gudrenoss_delete", "allowed %u, n %lu, bits %lu, p %lu", f, n, bits, places[i]);
+                    CALL(gudrenoss_delete(f, n, bits, places[i], &sign, &a, &b, &c));
                 }
-                about("gudrenoss_complement", "allowed %u, bits %lu, n 64", f, bits);
-                CALL(gudrenoss_complement(f, bits, 64, &sign, &a));
+                about("gudrenoss_complement", "allowed %u, n %lu, bits %lu, m 64", f, n, bits);
+                CALL(gudrenoss_complement(f, n, bits, 64, &sign, &a, &b));
             }
         }
     }
@@ -180,14 +186,15 @@ static void signed_operations(void)
     for (unsigned f = 0; f < 2; f++) {
         for (unsigned k = 0; k <= 65; k++) {
             for (unsigned kind = 0; kind < 5; kind++) {
+                uint64_t n = k == 65 ? 64 : widest(f, k);
                 for (unsigned i = 0; i < k; i++) {
                     word[i] = kind == 0 ? i : kind == 1 ? k - 1 - i : kind == 2 ? 0 : kind == 3 ? below(64) : i / 2 + (i % 2) * (k / 2 + 1);
                 }
                 if (kind == 4 && k > 1) {
                     word[k - 1] = word[k - 2]; /* found last */
                 }
-                about("gudrenoss_canonicalise", "allowed %u, %u symbols, kind %u", f, k, kind);
-                CALL(gudrenoss_canonicalise(f, word, k, &sign, &a));
+                about("gudrenoss_canonicalise", "allowed %u, n %lu, %u symbols, kind %u", f, n, k, kind);
+                CALL(gudrenoss_canonicalise(f, n, word, k, &sign, &a, &b));
             }
         }
         for (unsigned k = 0; k <= 64; k++) {
@@ -195,15 +202,16 @@ static void signed_operations(void)
                 uint64_t x = pattern(k, kind);
                 uint64_t ys[4] = {~x, low(64 - k), x, any() & ~x};
                 for (unsigned i = 0; i < 4; i++) {
-                    about("gudrenoss_merge", "allowed %u, bits %lu and %lu", f, x, ys[i]);
-                    CALL(gudrenoss_merge(f, x, f, ys[i], &sign, &a));
+                    uint64_t n = widest(f, k), m = widest(f, (unsigned)__builtin_popcountll(ys[i]));
+                    about("gudrenoss_merge", "allowed %u, n %lu, bits %lu and n %lu, bits %lu", f, n, x, m, ys[i]);
+                    CALL(gudrenoss_merge(f, n, x, f, m, ys[i], &sign, &a, &b));
                 }
             }
         }
         for (unsigned k = 0; k <= 64; k++) {
-            uint64_t x = f ? low(k) : pattern(k, 3), y = f ? low(64 - k) : ~x;
-            about("gudrenoss_merge", "allowed %u, bits %lu and %lu", f, x, y);
-            CALL(gudrenoss_merge(f, x, f, y, &sign, &a));
+            uint64_t x = f ? low(k) : pattern(k, 3), y = f ? low(64 - k) : ~x, n = f ? 1 : 64;
+            about("gudrenoss_merge", "allowed %u, n %lu, bits %lu and n %lu, bits %lu", f, n, x, n, y);
+            CALL(gudrenoss_merge(f, n, x, f, n, y, &sign, &a, &b));
         }
     }
 }
