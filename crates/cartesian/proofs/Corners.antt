@@ -1,56 +1,22 @@
--- Numbers that may be 2^64 or more, and the offset of a corner as a loop over the axes sums it. Assumes nothing.
---   fits-small, fits-big    what `fits` says of a number below 2^64, and of the others
---   fits-given, fits-refused    and the other way round
---   stays-big    a number no smaller than one that is 2^64 or more is so too
+-- The offset of a corner, as a loop over the axes sums it. Assumes nothing.
 --   Summing rs axes sum st left i    sum has the strides of the chosen axes below i, st is the stride at i, and left has the axes from i up
 --   summing-starts, summing-turn, summing-ends    before the first axis, one axis more, and after the last
 --   axis-chosen, axis-left-out    what an axis adds to the sum
 use mathlib.Core.Path.{_≡_, refl, sym, ap, subst, _∙_}
-use mathlib.Core.Bool.{Bool, true, false}
 use mathlib.Core.List.{List}
 use Prim.Native.Nat.{ℕ, zero, suc, _+_, _*_, _/_, _%_, _^_, _<_, _≤_, zero-le}
 use native.Mathlib.Nat.{div-one, div-div-eq-div-mul, add-zero, one-mul, zero-mul, pow-suc}
 use native.Mathlib.Numerals.{add-one}
 use native.Mathlib.Omega.{arith}
-use borrow.Author.Tests.{leb-true, le-leb, lt-leb}
-use lib.Dec.{leb}
 use lib.ListN.{length, getD, drop}
 use lib.Seq.{drop-cons}
-use Rattle.words.specs.Pick.{pick}
 use Rattle.words.specs.Bits.{setBits}
 use Rattle.positional.specs.Positional.{product, stride, cornerOf}
 use Rattle.positional.proofs.Strides.{stride-next}
 use Rattle.positional.proofs.Corner.{corner-turn, corner-none}
-use Rattle.answers.specs.Says.{Says, gives, refuses, refusesWith}
-use Rattle.answers.proofs.Says.{gives-same, gives-no-refusal, gives-never}
+use Rattle.answers.specs.Says.{Says, gives}
 use Rattle.cartesian.specs.Checks.{fits}
-
--- ---- numbers that may be 2^64 or more
-
-pub fits-small : (n : ℕ) → n < 2 ^ 64 → fits n ≡ gives n
-fits-small n h = simp (lt-leb (2 ^ 64) n h)
-
-pub fits-big : (n : ℕ) → 2 ^ 64 ≤ n → fits n ≡ refuses 9
-fits-big n h = simp (le-leb (2 ^ 64) n h)
-
-pub fits-given : (n x : ℕ) → gives x ≡ fits n → x ≡ n
-fits-given n x e = go (leb (2 ^ 64) n) refl e
-  where
-    go : (t : Bool) → leb (2 ^ 64) n ≡ t → gives x ≡ pick t (refuses 9) (gives n) → x ≡ n
-    go true b e = absurd (gives-no-refusal x 9 e)
-    go false b e = gives-same x n e
-
-pub fits-refused : (n d : ℕ) (c : List ℕ) → refusesWith d c ≡ fits n → 2 ^ 64 ≤ n
-fits-refused n d c e = go (leb (2 ^ 64) n) refl e
-  where
-    go : (t : Bool) → leb (2 ^ 64) n ≡ t → refusesWith d c ≡ pick t (refuses 9) (gives n) → 2 ^ 64 ≤ n
-    go true b e = leb-true (2 ^ 64) n b
-    go false b e = absurd (gives-never n d c (sym e))
-
-pub stays-big : (n m d : ℕ) (c : List ℕ) → refusesWith d c ≡ fits n → n ≤ m → fits n ≡ fits m
-stays-big n m d c e h = fits-big n (fits-refused n d c e) ∙ sym (fits-big m (omega (arith, h, fits-refused n d c e)))
-
--- ---- the loop over the axes
+use Rattle.cartesian.proofs.Fits.{fits-small}
 
 pub record Summing (rs : List ℕ) (axes : ℕ) (sum st : Says ℕ) (left i : ℕ) : Type 0 where
   pub within : i ≤ length rs

@@ -38,11 +38,19 @@ high-zero = 2 ^ 40 ∷ 2 ^ 40 ∷ 0 ∷ []
 abbrev low-zero : List ℕ
 low-zero = 0 ∷ 2 ^ 40 ∷ 2 ^ 40 ∷ []
 
+count-of-high-zero : countSays high-zero ≡ gives 0
+unfolding product
+count-of-high-zero = refl
+
+count-of-low-zero : countSays low-zero ≡ gives 0
+unfolding product
+count-of-low-zero = refl
+
 no-tuple-of-zero : delinearizeSays (0 ∷ []) 0 1 ≡ refuses 3
 unfolding product
 no-tuple-of-zero = refl
 
-no-tuple-of-high-zero : delinearizeSays high-zero 0 3 ≡ refuses 9
+no-tuple-of-high-zero : delinearizeSays high-zero 0 3 ≡ refuses 3
 unfolding product
 no-tuple-of-high-zero = refl
 
@@ -52,6 +60,15 @@ no-tuple-of-low-zero = refl
 
 no-number-of-zeros : linearizeSays high-zero (0 ∷ 0 ∷ 0 ∷ []) ≡ refuses 7
 no-number-of-zeros = refl
+
+-- each stride is handed out, so a zero after them does not help; one before them does
+strides-before-zero : stridesSays high-zero 3 ≡ refuses 9
+unfolding product
+strides-before-zero = refl
+
+strides-past-zero : stridesSays (2 ^ 40 ∷ 0 ∷ 2 ^ 40 ∷ 2 ^ 40 ∷ []) 4 ≡ gives (1 ∷ 2 ^ 40 ∷ 0 ∷ 0 ∷ [])
+unfolding product
+strides-past-zero = refl
 
 -- a stride past 2^64 that falls back to 0
 corner-past-zero : cornerSays (2 ^ 40 ∷ 2 ^ 40 ∷ 0 ∷ 1 ∷ []) 8 ≡ gives 0

@@ -1,3 +1,4 @@
+pub mod Fits
 pub mod Products
 pub mod Tuples
 pub mod Writing

@@ -1,41 +1,34 @@
--- Products that may be 2^64 or more, and the rule for 9 that judges the first radices, fewer first. Assumes nothing.
---   exceeds-test    a product is held against 2^64 without being formed
---   some-later    a test that holds for some j up to m holds for some j up to any n above it
---   stride-fits    where the rule does not refuse, each stride up to there is below 2^64
---   Partial rs p i    p is the product of the first i radices, and the rule has not refused up to there
+-- Products of radices: of all of them, exactly, and of the first ones, as they are multiplied up. Assumes nothing.
+--   stride-fits    where the rule of strides does not refuse, each stride up to there is below 2^64
+--   Partial rs p i    p is the product of the first i radices, and none of fewer is 2^64 or more
 --   partial-starts, partial-turn    before the first radix, and one radix more
---   partial-stops, partial-ends    what the rule says where one product more is 2^64 or more, and where none is
---   size-by-partial    the product of all radices is that of the first ones, up to their number
---   partial-given, size-given    what the rule tells where it does not refuse
-use mathlib.Core.Path.{_≡_, refl, sym, ap, ap₂, subst, _∙_}
+--   partial-stops, partial-ends    where one product more is 2^64 or more, and where none is: how far the front reaches
+--   front-short, front-whole    what the rule of strides says where the front stops short, and where it does not
+--   vanishing-here, vanishing-turn, vanishing-ends    whether the product from an axis up is 0: a radix 0, any other, and none
+--   product-whole, product-none, product-past    the product of all radices: where the front has them all; where it has not, with a radix 0 further on, and with none
+use mathlib.Core.Path.{_≡_, refl, sym, ap, subst, _∙_}
 use mathlib.Core.Bool.{Bool, true, false}
-use mathlib.Core.Logic.{_⊎_, inl, inr, ⊎-elim}
+use mathlib.Core.Logic.{_⊎_, inl, inr}
 use mathlib.Core.List.{List}
-use Prim.Native.Nat.{ℕ, zero, suc, _+_, _*_, _/_, _^_, _<_, _≤_}
-use native.Mathlib.Nat.{le-refl, not-suc-le-zero, le-of-suc-le-suc, eq-or-lt-of-le, div-lt-iff-lt-mul, le-div-iff-mul-le}
+use Prim.Native.Nat.{ℕ, zero, suc, _+_, _*_, _^_, _<_, _≤_}
+use native.Mathlib.Nat.{le-refl, not-suc-le-zero, le-of-suc-le-suc, eq-or-lt-of-le, mul-zero, zero-mul, le-mul-of-pos-right, mul-assoc}
 use native.Mathlib.Numerals.{add-one}
 use native.Mathlib.Omega.{arith}
-use borrow.Author.Tests.{ltb-true, ltb-false, lt-leb, le-leb, leb-false}
-use lib.Dec.{leb, ltb}
-use lib.ListN.{length, getD}
+use borrow.Author.Tests.{leb-true, leb-false, le-leb, eqb-true, eqb-false, eq-eqb, ne-eqb}
+use lib.Dec.{leb, eqb}
+use lib.ListN.{length, getD, drop, drop-of-length-le}
+use lib.Seq.{drop-cons}
 use Rattle.words.specs.Pick.{pick}
 use Rattle.positional.specs.Positional.{product, stride}
-use Rattle.positional.proofs.Strides.{stride-next, stride-all}
+use Rattle.positional.proofs.Strides.{stride-next, stride-all, product-split}
 use Rattle.answers.specs.Says.{gives, refuses}
-use Rattle.answers.proofs.Says.{gives-same, passed}
-use Rattle.cartesian.specs.Checks.{someUpTo, tooBig}
-use Rattle.cartesian.specs.Rules.{partialSays, sizeSays}
+use Rattle.cartesian.specs.Checks.{fits}
+use Rattle.cartesian.specs.Partial.{someUpTo, tooBig, Front}
+use Rattle.cartesian.proofs.Fits.{fits-small, fits-big}
 
-pub exceeds-test : (a b : ℕ) → 0 < a → ltb (18446744073709551615 / a) b ≡ leb (2 ^ 64) (a * b)
-exceeds-test a b h = go (ltb (18446744073709551615 / a) b) refl
-  where
-    go : (t : Bool) → ltb (18446744073709551615 / a) b ≡ t → t ≡ leb (2 ^ 64) (a * b)
-    go true e = sym (le-leb (2 ^ 64) (a * b) (omega (arith, div-lt-iff-lt-mul h .0 (ltb-true (18446744073709551615 / a) b e))))
-    go false e = sym (lt-leb (2 ^ 64) (a * b) (omega (arith, le-div-iff-mul-le h .0 (ltb-false (18446744073709551615 / a) b e))))
+-- ---- the rule of strides
 
--- ---- the rule
-
-pub some-later : (t : ℕ → Bool) (m n : ℕ) → m ≤ n → someUpTo t m ≡ true → someUpTo t n ≡ true
+some-later : (t : ℕ → Bool) (m n : ℕ) → m ≤ n → someUpTo t m ≡ true → someUpTo t n ≡ true
 some-later t zero zero h e = e
 some-later t (suc m) zero h e = absurd (not-suc-le-zero h)
 some-later t m (suc n) h e = go (eq-or-lt-of-le h) (λ l. some-later t m n (le-of-suc-le-suc l) e)
@@ -69,35 +62,80 @@ unfolding product
 partial-starts rs = record { is = refl; small = refl }
 
 -- one radix more
-next-is : (rs : List ℕ) (p i : ℕ) → Partial rs p i → i < length rs → p * getD rs i 0 ≡ stride rs (suc i)
-next-is rs p i k h = ap (λ (s : ℕ). s * getD rs i 0) (k .is) ∙ sym (stride-next rs i h)
+next-is : (rs : List ℕ) (p i : ℕ) → p ≡ stride rs i → i < length rs → p * getD rs i 0 ≡ stride rs (suc i)
+next-is rs p i e h = ap (λ (s : ℕ). s * getD rs i 0) e ∙ sym (stride-next rs i h)
 
-next-test : (rs : List ℕ) (p i : ℕ) (t : Bool) → Partial rs p i → i < length rs → leb (2 ^ 64) (p * getD rs i 0) ≡ t → tooBig rs (suc i) ≡ t
-next-test rs p i t k h e = ap (λ (b : Bool). pick b true (leb (2 ^ 64) (stride rs (suc i)))) (k .small) ∙ ap (leb (2 ^ 64)) (sym (next-is rs p i k h)) ∙ e
+next-test : (rs : List ℕ) (p i : ℕ) (t : Bool) → p ≡ stride rs i → tooBig rs i ≡ false → i < length rs → leb (2 ^ 64) (p * getD rs i 0) ≡ t → tooBig rs (suc i) ≡ t
+next-test rs p i t k s h e = ap (λ (b : Bool). pick b true (leb (2 ^ 64) (stride rs (suc i)))) s ∙ ap (leb (2 ^ 64)) (sym (next-is rs p i k h)) ∙ e
 
 pub partial-turn : (rs : List ℕ) (p i : ℕ) → Partial rs p i → i < length rs → leb (2 ^ 64) (p * getD rs i 0) ≡ false → Partial rs (p * getD rs i 0) (i + 1)
 partial-turn rs p i k h e =
-    subst (Partial rs (p * getD rs i 0)) (sym (add-one i)) (record { is = next-is rs p i k h; small = next-test rs p i false k h e })
+    subst (Partial rs (p * getD rs i 0)) (sym (add-one i)) (record { is = next-is rs p i (k .is) h; small = next-test rs p i false (k .is) (k .small) h e })
 
-pub partial-stops : (rs : List ℕ) (n p i : ℕ) → Partial rs p i → i < n → i < length rs → leb (2 ^ 64) (p * getD rs i 0) ≡ true → refuses 9 ≡ partialSays rs n
-partial-stops rs n p i k h l e = sym (simp (some-later (λ j. leb (2 ^ 64) (stride rs j)) (suc i) n h (next-test rs p i true k l e)))
+pub partial-stops : (rs : List ℕ) (n p i : ℕ) → Partial rs p i → i < n → leb (2 ^ 64) (p * getD rs i 0) ≡ true → Front rs n p i
+partial-stops rs n p i k h e =
+    record { within = omega arith; is = k .is; small = k .small; stops = λ l. leb-true (2 ^ 64) (p * getD rs i 0) e }
 
-pub partial-ends : (rs : List ℕ) (n p i : ℕ) → Partial rs p i → i ≡ n → gives p ≡ partialSays rs n
-partial-ends rs n p i k e = subst (λ (j : ℕ). gives p ≡ partialSays rs j) e (sym (simp (k .small, k .is)))
+pub partial-ends : (rs : List ℕ) (n p i : ℕ) → Partial rs p i → i ≡ n → Front rs n p i
+partial-ends rs n p i k e = record { within = omega arith; is = k .is; small = k .small; stops = λ l. absurd (omega arith) }
 
-pub size-by-partial : (rs : List ℕ) → partialSays rs (length rs) ≡ sizeSays rs
-size-by-partial rs = simp (stride-all rs (length rs) (le-refl (length rs)))
+-- ---- what the front tells of strides
 
--- ---- what the rule tells where it does not refuse
+pub front-short : (rs : List ℕ) (n p i : ℕ) → Front rs n p i → i < n → n ≤ length rs → tooBig rs n ≡ true
+front-short rs n p i f h l =
+    some-later (λ j. leb (2 ^ 64) (stride rs j)) (suc i) n h
+    (next-test rs p i true (f .is) (f .small) (omega arith) (le-leb (2 ^ 64) (p * getD rs i 0) (f .stops h)))
 
-pub partial-given : (rs : List ℕ) (n c : ℕ) → partialSays rs n ≡ gives c → tooBig rs n ≡ false
-partial-given rs n c e = passed (tooBig rs n) 9 (gives (stride rs n)) c e .0
+pub front-whole : (rs : List ℕ) (n p i : ℕ) → Front rs n p i → n ≤ i → tooBig rs n ≡ false
+front-whole rs n p i f h = let e : i ≡ n = omega (arith, f .within) in subst (λ (j : ℕ). tooBig rs j ≡ false) e (f .small)
 
-pub size-given : (rs : List ℕ) (c : ℕ) → sizeSays rs ≡ gives c → (c ≡ product rs) × (product rs < 2 ^ 64)
-size-given rs c e = go (passed (tooBig rs (length rs)) 9 (gives (product rs)) c e)
-  where
-    go : (tooBig rs (length rs) ≡ false) × (gives (product rs) ≡ gives c) → (c ≡ product rs) × (product rs < 2 ^ 64)
-    go p = (
-      sym (gives-same (product rs) c (p .1)),
-      subst (λ (q : ℕ). q < 2 ^ 64) (stride-all rs (length rs) (le-refl (length rs))) (stride-fits rs (length rs) (length rs) (p .0) (le-refl (length rs))),
-    )
+-- ---- whether the product from an axis up is 0
+
+-- the radix at the axis, and those above it
+product-from : (rs : List ℕ) (i : ℕ) → i < length rs → product (drop i rs) ≡ getD rs i 0 * product (drop (i + 1) rs)
+unfolding product
+product-from rs i h =
+    ap product (drop-cons rs i 0 h) ∙ ap (λ (j : ℕ). getD rs i 0 * product (drop j rs)) (sym (add-one i))
+
+pub vanishing-here : (rs : List ℕ) (i : ℕ) → i < length rs → getD rs i 0 ≡ 0 → eqb (product (drop i rs)) 0 ≡ true
+vanishing-here rs i h e =
+    eq-eqb (product (drop i rs)) 0 (product-from rs i h ∙ ap (λ (r : ℕ). r * product (drop (i + 1) rs)) e ∙ zero-mul (product (drop (i + 1) rs)))
+
+-- r is not 0
+same-zero : (r q : ℕ) → (r ≡ 0 → ⊥) → eqb (r * q) 0 ≡ eqb q 0
+same-zero r zero h = ap (λ (p : ℕ). eqb p 0) (mul-zero r)
+same-zero zero (suc q) h = absurd (h refl)
+same-zero (suc r) (suc q) h = ne-eqb (suc r * suc q) 0 (omega arith) ∙ sym (ne-eqb (suc q) 0 (omega arith))
+
+pub vanishing-turn : (rs : List ℕ) (i : ℕ) → i < length rs → (getD rs i 0 ≡ 0 → ⊥) → eqb (product (drop i rs)) 0 ≡ eqb (product (drop (i + 1) rs)) 0
+vanishing-turn rs i h n = ap (λ (p : ℕ). eqb p 0) (product-from rs i h) ∙ same-zero (getD rs i 0) (product (drop (i + 1) rs)) n
+
+pub vanishing-ends : (rs : List ℕ) (i : ℕ) → length rs ≤ i → eqb (product (drop i rs)) 0 ≡ false
+unfolding product
+vanishing-ends rs i h = ap (λ (l : List ℕ). eqb (product l) 0) (drop-of-length-le rs h)
+
+-- ---- the product of all radices
+
+pub product-whole : (rs : List ℕ) (p i : ℕ) → Front rs (length rs) p i → i ≡ length rs → gives p ≡ fits (product rs)
+product-whole rs p i f e =
+    let q : p ≡ product rs = f .is ∙ stride-all rs i (omega arith) in
+    ap gives q ∙ sym (fits-small (product rs) (omega (arith, q, stride-fits rs i i (f .small) (le-refl i), f .is)))
+
+-- the front, the radix that stops it and those above it
+product-parts : (rs : List ℕ) (p i : ℕ) → Front rs (length rs) p i → i < length rs → product rs ≡ p * getD rs i 0 * product (drop (i + 1) rs)
+product-parts rs p i f h =
+    product-split rs i
+    ∙ ap (λ (s : ℕ). s * product (drop i rs)) (sym (f .is))
+    ∙ ap (λ (q : ℕ). p * q) (product-from rs i h)
+    ∙ sym (mul-assoc p (getD rs i 0) (product (drop (i + 1) rs)))
+
+pub product-none : (rs : List ℕ) (p i : ℕ) → Front rs (length rs) p i → i < length rs → eqb (product (drop (i + 1) rs)) 0 ≡ true → gives 0 ≡ fits (product rs)
+product-none rs p i f h e =
+    let z : product rs ≡ 0 =
+    product-parts rs p i f h ∙ ap (λ (q : ℕ). p * getD rs i 0 * q) (eqb-true (product (drop (i + 1) rs)) 0 e) ∙ mul-zero (p * getD rs i 0) in
+    sym (ap fits z ∙ fits-small 0 (omega arith))
+
+pub product-past : (rs : List ℕ) (p i : ℕ) → Front rs (length rs) p i → i < length rs → eqb (product (drop (i + 1) rs)) 0 ≡ false → refuses 9 ≡ fits (product rs)
+product-past rs p i f h e =
+    let some : 0 < product (drop (i + 1) rs) = omega (arith, eqb-false (product (drop (i + 1) rs)) 0 e) in
+    sym (fits-big (product rs) (omega (arith, f .stops h, product-parts rs p i f h, le-mul-of-pos-right (p * getD rs i 0) some)))

@@ -1,5 +1,9 @@
 -- The promises of the calls on shapes, as theorems about what they say. Assumes nothing.
 --   count-is-how-many-tuples    the count is how many digit tuples the shape has
+--   how-many-tuples-is-the-count    and a shape of at most 16 axes that has c digit tuples counts c, or refuses 9 if c is 2^64 or more: nothing else decides
+--   zero-radix-counts-none    a shape with a radix 0, at whatever axis, counts 0
+--   zero-radix-has-no-tuple    delinearize of it is 3 for every number
+--   zero-radix-has-no-number    linearize of it is 7 for every tuple of as many digits
 --   linearize-is-how-many-earlier    the number of a tuple is how many tuples of the shape stand earlier in colex order
 --   linearize-keeps-the-order    of two tuples, the earlier has the smaller number
 --   linearize-answers, delinearize-answers    where the shape has a count, each tuple has a number below it, and each number below it a tuple
@@ -7,22 +11,28 @@
 --   linearize-by-strides    the number of a tuple is the sum of its digits times their strides
 --   corner-is-a-number    the offset of a corner is the number whose digits are 1 at the chosen axes and 0 at the others
 use mathlib.Core.Path.{_≡_, refl, sym, ap, subst, _∙_}
+use mathlib.Core.Bool.{Bool, true, false}
 use mathlib.Core.Logic.{_↔_}
 use mathlib.Core.List.{List}
-use Prim.Native.Nat.{ℕ, _<_, _≤_}
+use Prim.Native.Nat.{ℕ, _<_, _≤_, zero-le}
 use native.Mathlib.Omega.{arith}
-use lib.ListN.{length, replicate}
+use borrow.Author.Tests.{le-ltb, le-leb, eq-eqb}
+use lib.ListN.{length, getD, replicate}
 use Rattle.words.specs.Colex.{ColexLt}
 use Rattle.words.specs.HowMany.{HowMany}
 use Rattle.words.proofs.Colex.{to-colex, from-colex}
+use Rattle.words.proofs.HowMany.{how-many-is-one-number}
 use Rattle.positional.specs.Positional.{product, strides, Digits, numberOf, weighed, digitsOf}
-use Rattle.positional.proofs.Digits.{number-below, digits-good, number-of-digits, digits-of-number}
+use Rattle.positional.proofs.Digits.{digit-below, number-below, digits-good, number-of-digits, digits-of-number}
 use Rattle.positional.proofs.Counted.{number-rises, before-of-number, product-is-how-many-digits, number-is-how-many-earlier}
-use Rattle.positional.proofs.Strides.{number-is-weighed}
+use Rattle.positional.proofs.Strides.{zero-radix, number-is-weighed}
 use Rattle.positional.proofs.Corner.{corner-is-number}
-use Rattle.answers.specs.Says.{gives}
+use Rattle.answers.specs.Says.{refuses, gives}
+use Rattle.cartesian.specs.Checks.{fits, within}
 use Rattle.cartesian.specs.Rules.{countSays, linearizeSays, delinearizeSays, cornerSays}
-use Rattle.cartesian.proofs.Rules.{Counted, count-given, Linear, linearize-given, linearize-gives, Delinear, delinearize-given, delinearize-gives, corner-given}
+use Rattle.cartesian.proofs.Fits.{fits-small}
+use Rattle.cartesian.proofs.Tuples.{within-is-digits}
+use Rattle.cartesian.proofs.Rules.{count-given, Linear, linearize-given, linearize-gives, Delinear, delinearize-given, delinearize-gives, corner-given}
 
 -- ---- what is counted
 
@@ -41,6 +51,25 @@ linearize-keeps-the-order rs ds es x y e f =
       λ c. omega (arith, l .is, m .is, number-rises rs ds es (l .good) (m .good) (from-colex ds es c)),
       λ h. to-colex ds es (before-of-number rs ds es (l .good) (m .good) (omega (arith, l .is, m .is))),
     )
+
+pub how-many-tuples-is-the-count : (rs : List ℕ) (c : ℕ) → length rs ≤ 16 → HowMany (Digits rs) c → countSays rs ≡ fits c
+how-many-tuples-is-the-count rs c l h =
+    simp (le-ltb 16 (length rs) l) (ap fits (how-many-is-one-number (Digits rs) (product rs) c (product-is-how-many-digits rs) h))
+
+-- ---- a radix 0, at axis i
+
+pub zero-radix-counts-none : (rs : List ℕ) (i : ℕ) → length rs ≤ 16 → i < length rs → getD rs i 0 ≡ 0 → countSays rs ≡ gives 0
+zero-radix-counts-none rs i l h e = simp (le-ltb 16 (length rs) l) (ap fits (zero-radix rs i h e) ∙ fits-small 0 (omega arith))
+
+pub zero-radix-has-no-tuple : (rs : List ℕ) (i x room : ℕ) → length rs ≤ 16 → i < length rs → getD rs i 0 ≡ 0 → delinearizeSays rs x room ≡ refuses 3
+zero-radix-has-no-tuple rs i x room l h e = simp (zero-radix-counts-none rs i l h e, le-leb 0 x zero-le)
+
+pub zero-radix-has-no-number : (rs ds : List ℕ) (i : ℕ) → length rs ≤ 16 → i < length rs → getD rs i 0 ≡ 0 → length ds ≡ length rs → linearizeSays rs ds ≡ refuses 7
+zero-radix-has-no-number rs ds i l h e k = simp (le-ltb 16 (length rs) l, eq-eqb (length ds) (length rs) k, none (within rs ds) refl)
+  where
+    none : (t : Bool) → within rs ds ≡ t → t ≡ false
+    none true w = absurd (omega (arith, digit-below rs ds (within-is-digits rs ds k .0 w) i h))
+    none false w = refl
 
 -- ---- the two ways
 

@@ -23,10 +23,9 @@ use Rattle.positional.proofs.Digits.{digits-long}
 use Rattle.answers.specs.Says.{gives, refusedIf, andThen}
 use Rattle.answers.proofs.Says.{gives-same, passed, then-gave}
 use Rattle.cartesian.specs.Checks.{fits, within}
-use Rattle.cartesian.specs.Rules.{wide, sizeSays, countSays, linearizeSays, delinearizeSays, cornerSays}
-use Rattle.cartesian.proofs.Products.{size-given}
+use Rattle.cartesian.specs.Rules.{wide, countSays, linearizeSays, delinearizeSays, cornerSays}
+use Rattle.cartesian.proofs.Fits.{fits-given}
 use Rattle.cartesian.proofs.Tuples.{within-is-digits}
-use Rattle.cartesian.proofs.Corners.{fits-given}
 
 -- ---- the count
 
@@ -36,10 +35,10 @@ pub record Counted (rs : List ℕ) (c : ℕ) : Type 0 where
   pub fits : product rs < 2 ^ 64
 
 pub count-given : (rs : List ℕ) (c : ℕ) → countSays rs ≡ gives c → Counted rs c
-count-given rs c e = go (passed (wide rs) 1 (sizeSays rs) c e)
+count-given rs c e = go (passed (wide rs) 1 (fits (product rs)) c e)
   where
-    go : (wide rs ≡ false) × (sizeSays rs ≡ gives c) → Counted rs c
-    go p = record { axes = ltb-false 16 (length rs) (p .0); is = size-given rs c (p .1) .0; fits = size-given rs c (p .1) .1 }
+    go : (wide rs ≡ false) × (fits (product rs) ≡ gives c) → Counted rs c
+    go p = record { axes = ltb-false 16 (length rs) (p .0); is = fits-given (product rs) c (p .1) .1; fits = fits-given (product rs) c (p .1) .0 }
 
 -- ---- the number of a tuple
 
@@ -51,27 +50,27 @@ pub record Linear (rs ds : List ℕ) (x : ℕ) : Type 0 where
 
 pub linearize-given : (rs ds : List ℕ) (x : ℕ) → linearizeSays rs ds ≡ gives x → Linear rs ds x
 linearize-given rs ds x e =
-    wide-passed (passed (wide rs) 1 (refusedIf (not (eqb (length ds) (length rs))) 8 (refusedIf (not (within rs ds)) 7 (andThen (sizeSays rs) (λ c. gives (numberOf rs ds))))) x e)
+    wide-passed (passed (wide rs) 1 (refusedIf (not (eqb (length ds) (length rs))) 8 (refusedIf (not (within rs ds)) 7 (andThen (fits (product rs)) (λ c. gives (numberOf rs ds))))) x e)
   where
-    sized : wide rs ≡ false → Digits rs ds → (c : ℕ) × (sizeSays rs ≡ gives c) × (gives (numberOf rs ds) ≡ gives x) → Linear rs ds x
+    sized : wide rs ≡ false → Digits rs ds → (c : ℕ) × (fits (product rs) ≡ gives c) × (gives (numberOf rs ds) ≡ gives x) → Linear rs ds x
     sized w g t = record { count = t .0; counted = simp (w, t .1); good = g; is = sym (gives-same (numberOf rs ds) x (t .2)) }
 
-    below-passed : wide rs ≡ false → length ds ≡ length rs → (not (within rs ds) ≡ false) × (andThen (sizeSays rs) (λ c. gives (numberOf rs ds)) ≡ gives x) → Linear rs ds x
-    below-passed w l p = sized w (within-is-digits rs ds l .0 (not-false (within rs ds) (p .0))) (then-gave (sizeSays rs) (λ c. gives (numberOf rs ds)) x (p .1))
+    below-passed : wide rs ≡ false → length ds ≡ length rs → (not (within rs ds) ≡ false) × (andThen (fits (product rs)) (λ c. gives (numberOf rs ds)) ≡ gives x) → Linear rs ds x
+    below-passed w l p = sized w (within-is-digits rs ds l .0 (not-false (within rs ds) (p .0))) (then-gave (fits (product rs)) (λ c. gives (numberOf rs ds)) x (p .1))
 
-    long-passed : wide rs ≡ false → (not (eqb (length ds) (length rs)) ≡ false) × (refusedIf (not (within rs ds)) 7 (andThen (sizeSays rs) (λ c. gives (numberOf rs ds))) ≡ gives x)
+    long-passed : wide rs ≡ false → (not (eqb (length ds) (length rs)) ≡ false) × (refusedIf (not (within rs ds)) 7 (andThen (fits (product rs)) (λ c. gives (numberOf rs ds))) ≡ gives x)
         → Linear rs ds x
     long-passed w p =
-        below-passed w (eqb-true (length ds) (length rs) (not-false (eqb (length ds) (length rs)) (p .0))) (passed (not (within rs ds)) 7 (andThen (sizeSays rs) (λ c. gives (numberOf rs ds))) x (p .1))
+        below-passed w (eqb-true (length ds) (length rs) (not-false (eqb (length ds) (length rs)) (p .0))) (passed (not (within rs ds)) 7 (andThen (fits (product rs)) (λ c. gives (numberOf rs ds))) x (p .1))
 
-    wide-passed : (wide rs ≡ false) × (refusedIf (not (eqb (length ds) (length rs))) 8 (refusedIf (not (within rs ds)) 7 (andThen (sizeSays rs) (λ c. gives (numberOf rs ds)))) ≡ gives x)
+    wide-passed : (wide rs ≡ false) × (refusedIf (not (eqb (length ds) (length rs))) 8 (refusedIf (not (within rs ds)) 7 (andThen (fits (product rs)) (λ c. gives (numberOf rs ds)))) ≡ gives x)
         → Linear rs ds x
-    wide-passed p = long-passed (p .0) (passed (not (eqb (length ds) (length rs))) 8 (refusedIf (not (within rs ds)) 7 (andThen (sizeSays rs) (λ c. gives (numberOf rs ds)))) x (p .1))
+    wide-passed p = long-passed (p .0) (passed (not (eqb (length ds) (length rs))) 8 (refusedIf (not (within rs ds)) 7 (andThen (fits (product rs)) (λ c. gives (numberOf rs ds)))) x (p .1))
 
 pub linearize-gives : (rs ds : List ℕ) (c : ℕ) → countSays rs ≡ gives c → Digits rs ds → linearizeSays rs ds ≡ gives (numberOf rs ds)
-linearize-gives rs ds c e g = go (passed (wide rs) 1 (sizeSays rs) c e)
+linearize-gives rs ds c e g = go (passed (wide rs) 1 (fits (product rs)) c e)
   where
-    go : (wide rs ≡ false) × (sizeSays rs ≡ gives c) → linearizeSays rs ds ≡ gives (numberOf rs ds)
+    go : (wide rs ≡ false) × (fits (product rs) ≡ gives c) → linearizeSays rs ds ≡ gives (numberOf rs ds)
     go p =
         let l : length ds ≡ length rs = digits-long rs ds g in
         simp (p .0, eq-eqb (length ds) (length rs) l, within-is-digits rs ds l .1 g, p .1)
@@ -119,5 +118,5 @@ corner-given rs axes x e = go (passed (wide rs) 1 (refusedIf (reaches (length rs
         on : (reaches (length rs) (setBits axes) ≡ false) × (fits (cornerOf rs (setBits axes)) ≡ gives x) → (axes < 2 ^ length rs) × (x ≡ cornerOf rs (setBits axes))
         on q = (
           omega (arith, bits-of-set axes, bits-fit (length rs) (setBits axes) (set-bits-monotone axes) (reaches-not (length rs) (setBits axes) .0 (q .0))),
-          fits-given (cornerOf rs (setBits axes)) x (sym (q .1)),
+          fits-given (cornerOf rs (setBits axes)) x (q .1) .1,
         )

@@ -1,2 +1,3 @@
 pub mod Checks
+pub mod Partial
 pub mod Rules

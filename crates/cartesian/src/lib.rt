@@ -1,15 +1,16 @@
-// Shapes (document 01, "Shapes, digit words, exponents"): a shape is a lent list of at most 16 radices, axis 0 least significant. Counting, strides, the number of
+// Shapes (document 01, "Shapes, digit words, exponents", as 02, section 4, amends it): a shape is a lent list of at most 16 radices, axis 0 least significant. Counting, strides, the number of
 // a digit tuple and the tuple of a number, and the offset of a corner.
 ghost use mathlib.Core.Path.{_≡_};
 ghost use mathlib.Core.Bool.{false};
 ghost use mathlib.Core.List.{_++_};
 ghost use Prim.Native.Nat.{ℕ, _+_, _*_, _-_, _^_, _<_, _≤_};
-ghost use lib.Dec.{leb};
+ghost use lib.Dec.{leb, eqb};
 ghost use lib.ListN.{length, drop};
-ghost use Rattle.positional.specs.Positional.{product, strides as stridesOf, Digits, numberOf, digitsOf};
+ghost use Rattle.positional.specs.Positional.{product as productOf, strides as stridesOf, Digits, numberOf, digitsOf};
 ghost use Rattle.answers.specs.Says.{answerSays, placesOf, after};
-ghost use Rattle.cartesian.specs.Checks.{fits, tooBig, within as withinOf};
-ghost use Rattle.cartesian.specs.Rules.{partialSays, sizeSays, countSays, stridesSays, linearizeSays, delinearizeSays, cornerSays};
+ghost use Rattle.cartesian.specs.Checks.{fits, within as withinOf};
+ghost use Rattle.cartesian.specs.Partial.{tooBig, Front as FrontOf};
+ghost use Rattle.cartesian.specs.Rules.{countSays, stridesSays, linearizeSays, delinearizeSays, cornerSays};
 use answers::Answer;
 use answers::Refusal;
 
@@ -23,29 +24,58 @@ pub fn exceeds(a: u64, b: u64) -> bool
     u64::MAX / a < b
 }
 
-// The product of the first radices: 9 if it is 2^64 or more for these, or for fewer of them.
-fn partial(radices: &[u64], upto: usize) -> Answer
+// The first radices of a shape, and their product.
+struct Front {
+    axes: usize,
+    product: u64,
+}
+
+// The first radices, at most so many of them, as far as the product of these, and of fewer of them, is below 2^64.
+fn partial(radices: &[u64], upto: usize) -> Front
     requires { ⌜ upto ≤ length (now radices) ⌝ }
-    ensures { λ r. ⌜ answerSays r ≡ partialSays (now (radices .entry)) upto ⌝ }
+    ensures { λ r. ⌜ FrontOf (now (radices .entry)) upto (r .product) (r .axes) ⌝ }
 {
     let mut product: u64 = 1;
     let mut i = 0;
     while i < upto {
         let r = radices[i];
         if exceeds(product, r) {
-            return Answer::Refused(Refusal::TooBig);
+            return Front { axes: i, product };
         }
         product *= r;
         i += 1;
     }
-    Answer::Is(product)
+    Front { axes: i, product }
 }
 
-// The product of the radices: the rule for 9 of count, linearize and delinearize.
-fn size(radices: &[u64]) -> Answer
-    ensures { λ r. ⌜ answerSays r ≡ sizeSays (now (radices .entry)) ⌝ }
+// Whether one of the radices from an axis up is 0, and so their product.
+fn vanishes(radices: &[u64], from: usize) -> bool
+    requires { ⌜ from ≤ length (now radices) ⌝ }
+    ensures { λ r. ⌜ r ≡ eqb (productOf (drop from (now (radices .entry)))) 0 ⌝ }
 {
-    partial(radices, radices.len())
+    let mut i = from;
+    while i < radices.len() {
+        if radices[i] == 0 {
+            return true;
+        }
+        i += 1;
+    }
+    false
+}
+
+// The product of the radices: 9 if it is 2^64 or more. Where a product of the first of them is, a radix 0 further on still makes it 0.
+fn size(radices: &[u64]) -> Answer
+    ensures { λ r. ⌜ answerSays r ≡ fits (productOf (now (radices .entry))) ⌝ }
+{
+    let front = partial(radices, radices.len());
+    let axes = front.axes;
+    if axes == radices.len() {
+        return Answer::Is(front.product);
+    }
+    if vanishes(radices, axes + 1) {
+        return Answer::Is(0);
+    }
+    Answer::Refused(Refusal::TooBig)
 }
 
 // How many digit tuples a shape has: 1 if it has more than 16 axes; 9.
@@ -90,10 +120,11 @@ pub fn strides(radices: &[u64], out: &mut [u64]) -> Answer
     if 16 < n {
         return Answer::Refused(Refusal::TooWide);
     }
-    let a = partial(radices, one_less(n));
-    let Answer::Is(_) = a else {
-        return a;
-    };
+    let last = one_less(n);
+    let front = partial(radices, last);
+    if front.axes < last {
+        return Answer::Refused(Refusal::TooBig);
+    }
     if out.len() < n {
         return Answer::Refused(Refusal::Shape);
     }
@@ -118,7 +149,7 @@ fn within(radices: &[u64], digits: &[u64]) -> bool
 
 // The number that has the digits, from the highest digit down.
 fn number(radices: &[u64], digits: &[u64]) -> u64
-    requires { ⌜ Digits (now radices) (now digits) × (product (now radices) < 2 ^ 64) ⌝ }
+    requires { ⌜ Digits (now radices) (now digits) × (productOf (now radices) < 2 ^ 64) ⌝ }
     ensures { λ r. ⌜ r ≡ numberOf (now (radices .entry)) (now (digits .entry)) ⌝ }
 {
     let mut above: u64 = 0;
@@ -152,7 +183,7 @@ pub fn linearize(radices: &[u64], digits: &[u64]) -> Answer
 
 // Writes the digits of x, the lowest first.
 fn write_digits(radices: &[u64], x: u64, out: &mut [u64])
-    requires { ⌜ (x < product (now radices)) × (length (now radices) ≤ length (now out)) ⌝ }
+    requires { ⌜ (x < productOf (now radices)) × (length (now radices) ≤ length (now out)) ⌝ }
     ensures { λ r. ⌜ now (out .exit) ≡ digitsOf (now (radices .entry)) x ++ drop (length (digitsOf (now (radices .entry)) x)) (now (out .entry)) ⌝ }
 {
     let mut left = x;

@@ -1,20 +1,19 @@
 -- What the calls on digit words promise together, over what they say. Assumes nothing.
 --   count-tells-how-many-words    the count is how many lists of k symbols below n there are
+--   digit-rank-is-how-many-earlier    the rank of a digit word is how many words of its radix and degree stand earlier in colex order
 --   symbols-of-word    over lists: the symbols of the word that has given symbols are these
 --   symbols-tell-the-word, word-tells-the-symbols    from symbols to the word and back, and from a word to its symbols and back, changes nothing
---   rank-tells-how-many-earlier    the rank of a word is how many lists of as many symbols below its radix stand earlier in colex order
 --   concatenation-joins-the-symbols    the symbols of a concatenation are those of the first word, followed by those of the second
 --   deletion-takes-a-position-out    deletion gives the symbol at the position, and its word has the other symbols
 --   outside-has-no-multiplicity    a symbol that is not below the radix stands nowhere
 --   stabilizer-is-a-product-of-factorials    the stabilizer is the product of the factorials of the multiplicities of the symbols below the radix
 --   word-is-a-shape-of-equal-radices    up to 16 positions, the symbols are the digits of the rank in the shape of equal radices
 use mathlib.Core.Path.{_≡_, refl, sym, ap, ap₂, subst, _∙_}
-use mathlib.Core.Bool.{Bool, true, false, not}
+use mathlib.Core.Bool.{not}
 use mathlib.Core.List.{List, [], _∷_, _++_}
-use Prim.Native.Nat.{ℕ, zero, suc, _+_, _-_, _^_, _≤_, _<_, zero-le}
-use native.Mathlib.Nat.{le-refl}
+use Prim.Native.Nat.{ℕ, zero, suc, _+_, _-_, _^_, _≤_, _<_}
 use native.Mathlib.Omega.{arith}
-use borrow.Author.Tests.{ltb-true, ltb-false, leb-false, le-ltb, lt-leb, eqb-true, not-false}
+use borrow.Author.Tests.{ltb-false, leb-false, le-ltb, lt-leb, eqb-true, not-false}
 use lib.Dec.{leb, ltb, eqb}
 use lib.ListN.{length, getD, take, drop, replicate, length-append, length-replicate}
 use Rattle.words.specs.Without.{without}
@@ -28,19 +27,20 @@ use Rattle.answers.specs.Says.{Says, gives, refusedIf, andThen}
 use Rattle.answers.proofs.Says.{gives-same, passed, then-gave}
 use Rattle.bits.specs.Member.{reaches}
 use Rattle.bits.proofs.Member.{reaches-not}
-use Rattle.positional.specs.Positional.{product, stride, Digits, numberOf}
+use Rattle.positional.specs.Positional.{product, Digits, numberOf}
 use Rattle.positional.proofs.Digits.{digits-good, number-of-digits, digits-of-number, number-below}
-use Rattle.positional.proofs.Equal.{product-equal, stride-equal, below-is-digits}
+use Rattle.positional.proofs.Equal.{product-equal, below-is-digits}
 use Rattle.positional.proofs.Counted.{product-is-how-many-digits, number-is-how-many-earlier}
-use Rattle.cartesian.specs.Checks.{fits, someUpTo, tooBig}
+use Rattle.cartesian.specs.Checks.{fits}
 use Rattle.cartesian.specs.Rules.{delinearizeSays}
+use Rattle.cartesian.proofs.Fits.{fits-given}
 use Rattle.deletion.specs.Multiplicities.{stabilizerBelow, stabilizerOf}
 use Rattle.deletion.proofs.Multiplicities.{stabilizer-over}
 use Rattle.digits.specs.declared.DigitWord.{DigitWord}
 use Rattle.digits.specs.Rules.{symbolsOf, wordOf, countSays, checkSays, symbolsSays, multiplicitySays, stabilizerSays, fromSymbolsSays, joinSays, concatSays, Taken, takeSays, deleteSays}
 use Rattle.digits.proofs.Powers.{power-within}
 use Rattle.digits.proofs.Positions.{symbols-long}
-use Rattle.digits.proofs.Rules.{Known, known, given-passed, fits-given, symbols-given}
+use Rattle.digits.proofs.Rules.{Known, known, given-passed, symbols-given}
 use Rattle.digits.proofs.Joining.{taken-long}
 
 -- ---- the count
@@ -66,6 +66,18 @@ symbols-below x h =
     below-is-digits n (symbolsOf x) .1
     (subst (λ (j : ℕ). Digits (replicate j n) (symbolsOf x)) (sym (symbols-long n k (x .rank)))
     (digits-good (replicate k n) (x .rank) (omega (arith, product-equal n k))))
+
+pub digit-rank-is-how-many-earlier : (x : DigitWord) (room : ℕ) (w : List ℕ) → symbolsSays x room ≡ gives w
+    → HowMany (λ u. Digits (replicate (x .degree) (x .radix)) u × ColexLt u w) (x .rank)
+digit-rank-is-how-many-earlier x room w e =
+    let rs : List ℕ = replicate (x .degree) (x .radix) in
+    let t = checks-of x (refusedIf (ltb room (x .degree)) 8 (gives (symbolsOf x))) w e in
+    let d : Known x (t .0) = known x (t .0) (t .1) in
+    let p = passed (ltb room (x .degree)) 8 (gives (symbolsOf x)) w (t .2) in
+    let low : x .rank < product rs = omega (arith, d .low, product-equal (x .radix) (x .degree)) in
+    subst (λ (v : List ℕ). HowMany (λ u. Digits rs u × ColexLt u v) (x .rank)) (gives-same (symbolsOf x) w (p .1))
+    (subst (HowMany (λ u. Digits rs u × ColexLt u (symbolsOf x))) (number-of-digits rs (x .rank) low)
+    (number-is-how-many-earlier rs (symbolsOf x) (digits-good rs (x .rank) low)))
 
 pub symbols-of-word : (n room : ℕ) (w : List ℕ) → Below n w → length w ≤ 64 → n ^ length w < 2 ^ 64 → length w ≤ room → symbolsSays (wordOf n w) room ≡ gives w
 symbols-of-word n room w b short small h =
@@ -98,17 +110,6 @@ word-tells-the-symbols x room w e =
     ap (fromSymbolsSays n) (sym (gives-same (symbolsOf x) w (p .1)))
     ∙ simp (le-ltb 64 (length (symbolsOf x)) (omega (arith, l, d .short)), reaches-not n (symbolsOf x) .1 (symbols-below x (d .low)), lt-leb (2 ^ 64) (n ^ length (symbolsOf x)) small)
     (ap gives same)
-
-pub rank-tells-how-many-earlier : (x : DigitWord) (room : ℕ) (w : List ℕ) → symbolsSays x room ≡ gives w
-    → HowMany (λ (u : List ℕ). Digits (replicate (x .degree) (x .radix)) u × ColexLt u w) (x .rank)
-rank-tells-how-many-earlier x room w e =
-    let rs : List ℕ = replicate (x .degree) (x .radix) in
-    let t = checks-of x (refusedIf (ltb room (x .degree)) 8 (gives (symbolsOf x))) w e in
-    let p = passed (ltb room (x .degree)) 8 (gives (symbolsOf x)) w (t .2) in
-    let b : x .rank < product rs = omega (arith, product-equal (x .radix) (x .degree), known x (t .0) (t .1) .low) in
-    subst (λ (v : List ℕ). HowMany (λ (u : List ℕ). Digits rs u × ColexLt u v) (x .rank)) (gives-same (symbolsOf x) w (p .1))
-    (subst (HowMany (λ (u : List ℕ). Digits rs u × ColexLt u (symbolsOf x))) (number-of-digits rs (x .rank) b)
-    (number-is-how-many-earlier rs (symbolsOf x) (digits-good rs (x .rank) b)))
 
 -- ---- concatenation and deletion
 
@@ -184,20 +185,6 @@ stabilizer-is-a-product-of-factorials x s e =
 
 -- ---- shapes
 
-none-up-to : (t : ℕ → Bool) (n : ℕ) → ((j : ℕ) → j ≤ n → t j ≡ false) → someUpTo t n ≡ false
-none-up-to t zero h = h 0 zero-le
-none-up-to t (suc n) h = rw (none-up-to t n (λ j l. h j (omega arith))) (h (suc n) (le-refl (suc n)))
-
--- each stride of a known word fits, as its count does
-powers-fit : (x : DigitWord) (c j : ℕ) → Known x c → j ≤ x .degree → x .radix ^ j < 2 ^ 64
-powers-fit x c j k h = go (ltb j (x .degree)) refl
-  where
-    go : (t : Bool) → ltb j (x .degree) ≡ t → x .radix ^ j < 2 ^ 64
-    go true e = power-within (x .radix) (x .degree) (x .rank) j (k .low) (k .small) (ltb-true j (x .degree) e)
-    go false e =
-        let q : x .degree ≡ j = omega (arith, ltb-false j (x .degree) e) in
-        subst (λ (i : ℕ). x .radix ^ i < 2 ^ 64) q (k .small)
-
 pub word-is-a-shape-of-equal-radices : (x : DigitWord) (c room : ℕ) → checkSays x ≡ gives c → x .degree ≤ 16
     → delinearizeSays (replicate (x .degree) (x .radix)) (x .rank) room ≡ symbolsSays x room
 word-is-a-shape-of-equal-radices x c room e h =
@@ -206,8 +193,6 @@ word-is-a-shape-of-equal-radices x c room e h =
     let rs : List ℕ = replicate k n in
     let d : Known x c = known x c (sym e) in
     let l : length rs ≡ k = length-replicate k n in
-    let big : tooBig rs (length rs) ≡ false =
-    none-up-to (λ j. leb (2 ^ 64) (stride rs j)) (length rs)
-    (λ j m. ap (leb (2 ^ 64)) (stride-equal n k j (omega arith)) ∙ lt-leb (2 ^ 64) (n ^ j) (powers-fit x c j d (omega arith))) in
-    simp (le-ltb 16 (length rs) (omega arith), big, lt-leb (product rs) (x .rank) (omega (arith, product-equal n k, d .low)))
+    let p : product rs ≡ n ^ k = product-equal n k in
+    simp (le-ltb 16 (length rs) (omega arith), lt-leb (2 ^ 64) (product rs) (omega (arith, d .small)), lt-leb (product rs) (x .rank) (omega (arith, d .low)))
     (ap (λ (j : ℕ). refusedIf (ltb room j) 8 (gives (symbolsOf x))) l ∙ sym (given-passed x c (refusedIf (ltb room k) 8 (gives (symbolsOf x))) (sym e)))

@@ -3,12 +3,10 @@
 --   given-passed, given-refused    a call whose word passes its checks, and one whose word does not
 --   Known x c    the width limits hold, c is the count, and the rank is below it
 --   known    what the checks tell where they pass
---   fits-given, fits-refused, fits-gives    a number that fits, and one that does not
 --   radix-some    a known word with a position has a radix that is not 0
 --   stride-is, stride-some, stride-refused    the stride of a position: what it is, that it is not 0, and that it is never refused
 --   symbols-short, symbols-given    what the symbols of a known word say
-use mathlib.Core.Path.{_≡_, refl, sym, ap, _∙_}
-use mathlib.Core.Bool.{Bool, true, false}
+use mathlib.Core.Path.{_≡_, sym, ap, _∙_}
 use mathlib.Core.List.{List}
 use Prim.Native.Nat.{ℕ, _^_, _≤_, _<_}
 use native.Mathlib.Omega.{arith}
@@ -20,6 +18,7 @@ use Rattle.answers.specs.declared.Answer.the-variants.{Refused}
 use Rattle.answers.specs.Says.{Says, refuses, refusesWith, gives, refusedIf, andThen, answerSays}
 use Rattle.answers.proofs.Says.{gives-same, gives-never, passed, then-gave}
 use Rattle.cartesian.specs.Checks.{fits}
+use Rattle.cartesian.proofs.Fits.{fits-small, fits-given}
 use Rattle.digits.specs.declared.DigitWord.{DigitWord}
 use Rattle.digits.specs.Rules.{symbolsOf, countSays, checkSays, given, symbolsSays}
 use Rattle.digits.proofs.Powers.{radix-positive, power-positive, power-within}
@@ -42,21 +41,6 @@ given-passed x c s e = ap (λ t. andThen t (λ d. s)) (sym e)
 
 pub given-refused : {A : Type 0} (x : DigitWord) (d : ℕ) (c : List ℕ) (s : Says A) → refusesWith d c ≡ checkSays x → given x s ≡ refusesWith d c
 given-refused x d c s e = ap (λ t. andThen t (λ d. s)) (sym e)
-
-pub fits-given : (n c : ℕ) → fits n ≡ gives c → (n < 2 ^ 64) × (c ≡ n)
-fits-given n c e =
-    let p = passed (leb (2 ^ 64) n) 9 (gives n) c e in
-    (leb-false (2 ^ 64) n (p .0), sym (gives-same n c (p .1)))
-
-pub fits-refused : (n d : ℕ) (c : List ℕ) → refusesWith d c ≡ fits n → leb (2 ^ 64) n ≡ true
-fits-refused n d c e = go (leb (2 ^ 64) n) e
-  where
-    go : (t : Bool) → refusesWith d c ≡ refusedIf t 9 (gives n) → t ≡ true
-    go true e = refl
-    go false e = absurd (gives-never n d c (sym e))
-
-pub fits-gives : (n : ℕ) → n < 2 ^ 64 → fits n ≡ gives n
-fits-gives n h = simp (lt-leb (2 ^ 64) n h)
 
 pub record Known (x : DigitWord) (c : ℕ) : Type 0 where
   pub short : x .degree ≤ 64
@@ -86,7 +70,7 @@ radix-some x c p k h = radix-positive (x .radix) (x .degree) (x .rank) p (k .low
 
 -- the radix to a smaller power fits as well
 pub stride-given : (x : DigitWord) (c p : ℕ) → Known x c → p < x .degree → fits (x .radix ^ p) ≡ gives (x .radix ^ p)
-stride-given x c p k h = fits-gives (x .radix ^ p) (power-within (x .radix) (x .degree) (x .rank) p (k .low) (k .small) h)
+stride-given x c p k h = fits-small (x .radix ^ p) (power-within (x .radix) (x .degree) (x .rank) p (k .low) (k .small) h)
 
 pub stride-is : (x : DigitWord) (c p s : ℕ) → Known x c → p < x .degree → gives s ≡ fits (x .radix ^ p) → s ≡ x .radix ^ p
 stride-is x c p s k h e = gives-same s (x .radix ^ p) (e ∙ stride-given x c p k h)

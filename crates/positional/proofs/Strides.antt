@@ -2,7 +2,8 @@
 --   product-append    the product of a list in two parts
 --   stride-next    the stride after a position is its stride times its radix
 --   stride-all    past the last position it is the product
---   radix-pos    no radix of a product that is not 0 is 0
+--   product-split    the product by the stride of a position and the radices from there up
+--   radix-pos, zero-radix    no radix of a product that is not 0 is 0; a product with a radix 0 is 0
 --   values-long, values-at    the list of the values of f
 --   strides-long, strides-at    the list of the strides
 --   number-is-weighed    a number is the sum of its digits times their strides
@@ -11,7 +12,7 @@ use mathlib.Core.List.{List, [], _∷_, _++_}
 use Prim.Native.Nat.{ℕ, zero, suc, _+_, _*_, _<_, _≤_}
 use native.Mathlib.Nat.{not-suc-le-zero, le-of-suc-le-suc, zero-lt-suc, lt-of-mul-lt-mul-left, one-mul, mul-one}
 use native.Mathlib.Omega.{arith}
-use lib.ListN.{length, getD, take}
+use lib.ListN.{length, getD, take, drop, take-append-drop}
 use lib.Seq.{take-all, take-suc}
 use Rattle.positional.specs.Positional.{product, stride, valuesOf, strides, numberOf, weighed}
 
@@ -33,6 +34,16 @@ radix-pos [] i p h = absurd (not-suc-le-zero h)
 radix-pos (zero ∷ rs) i p h = absurd (omega arith)
 radix-pos (suc r ∷ rs) zero p h = zero-lt-suc r
 radix-pos (suc r ∷ rs) (suc i) p h = radix-pos rs i (lt-of-mul-lt-mul-left (suc r) (omega arith)) (le-of-suc-le-suc h)
+
+pub product-split : (rs : List ℕ) (i : ℕ) → product rs ≡ stride rs i * product (drop i rs)
+product-split rs i = ap product (sym (take-append-drop i rs)) ∙ product-append (take i rs) (drop i rs)
+
+pub zero-radix : (rs : List ℕ) (i : ℕ) → i < length rs → getD rs i 0 ≡ 0 → product rs ≡ 0
+zero-radix rs i h e = go (product rs) refl
+  where
+    go : (p : ℕ) → product rs ≡ p → p ≡ 0
+    go zero q = refl
+    go (suc p) q = absurd (omega (arith, radix-pos rs i (omega arith) h))
 
 -- ---- the list of the strides
 

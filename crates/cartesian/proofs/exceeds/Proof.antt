@@ -4,7 +4,7 @@ use Prim.Native.Nat.{ℕ, _*_, _^_}
 use native.Mathlib.Omega.{arith}
 use borrow.Author.Needs.{needs}
 use borrow.Author.Tests.{lt-leb}
-use Rattle.cartesian.proofs.Products.{exceeds-test}
+use Rattle.cartesian.proofs.Fits.{exceeds-test}
 use Rattle.cartesian.proofs.exceeds.Statement.{statement}
 use Rattle.cartesian.proofs.exceeds.Tie as tie
 

@@ -3,7 +3,8 @@ use mathlib.Core.Path.{sym, ap, _∙_}
 use borrow.Author.Needs.{needs}
 use borrow.Author.Tests.{lt-ltb, le-ltb, eq-eqb, ne-eqb, not-true, not-false}
 use Rattle.answers.specs.Says.{answerSays}
-use Rattle.cartesian.proofs.Products.{size-given}
+use Rattle.positional.specs.Positional.{product}
+use Rattle.cartesian.proofs.Fits.{fits-given}
 use Rattle.cartesian.proofs.Tuples.{within-is-digits}
 use Rattle.cartesian.proofs.linearize.Statement.{statement}
 use Rattle.cartesian.proofs.linearize.Tie as tie
@@ -36,7 +37,7 @@ number-requires : tie.Need-number-requires
 number-requires c κs =
     let a = c .before .before .before .before .before .before .before .before .before .args in (
       within-is-digits (a .radices .now) (a .digits .now) (c .before .before .before .before .before .if2 .left) .0 (sym (c .before .before .before .before .within .ensures) ∙ not-false _ (c .before .before .before .if3 .left)),
-      size-given (a .radices .now) _ (sym (c .before .before .size .ensures) ∙ ap answerSays (c .enum-told .given .1)) .1,
+      fits-given (product (a .radices .now)) _ (sym (c .before .before .size .ensures) ∙ ap answerSays (c .enum-told .given .1)) .0,
     )
 
 returns-5 : tie.Need-returns-5

@@ -1,4 +1,4 @@
--- `cartesian::partial` meets its contract. The invariant: the product of the radices passed, and that the rule has not refused yet. Assumes nothing.
+-- `cartesian::partial` meets its contract. The invariant: the product of the radices passed, and that none on the way was 2^64 or more. Assumes nothing.
 use mathlib.Core.Path.{sym, _∙_}
 use Prim.Native.Nat.{_≤_, _-_, _*_, _^_}
 use native.Mathlib.Omega.{arith}
@@ -31,7 +31,7 @@ returns : tie.Need-returns Inv-loop μ-loop
 returns c =
     let a = c .before .before .before .before .before .before .args in
     let l = c .before .before .before .before .loop in
-    partial-stops (a .radices .now) (a .upto) (l .product) (l .i) (l .inv .1) (omega arith) (omega arith) (sym (c .before .exceeds .ensures) ∙ c .if1 .taken)
+    partial-stops (a .radices .now) (a .upto) (l .product) (l .i) (l .inv .1) (omega arith) (sym (c .before .exceeds .ensures) ∙ c .if1 .taken)
 
 mul-product : tie.Need-mul-product Inv-loop μ-loop
 mul-product c =

@@ -4,7 +4,7 @@ use Prim.Native.Nat.{ℕ, _+_}
 use native.Mathlib.Omega.{arith}
 use borrow.Author.Needs.{needs}
 use Rattle.answers.specs.Says.{gives, answerSays}
-use Rattle.cartesian.proofs.Corners.{fits-small, fits-big, fits-given, stays-big}
+use Rattle.cartesian.proofs.Fits.{fits-small, fits-big, fits-given, stays-big}
 use Rattle.cartesian.proofs.plus.Statement.{statement}
 use Rattle.cartesian.proofs.plus.Tie as tie
 
@@ -32,8 +32,8 @@ sub-if1 c = search needs
 returns-3 : tie.Need-returns-3
 returns-3 c = λ m n p q. sym (fits-big (m + n) (omega (
   arith,
-  fits-given m _ (sym (ap answerSays (c .before .before .before .before .before .a .given .1)) ∙ p),
-  fits-given n _ (sym (ap answerSays (c .before .before .b .given .1)) ∙ q),
+  fits-given m _ (sym p ∙ ap answerSays (c .before .before .before .before .before .a .given .1)) .1,
+  fits-given n _ (sym q ∙ ap answerSays (c .before .before .b .given .1)) .1,
 )))
 
 add-t5 : tie.Need-add-t5
@@ -41,8 +41,8 @@ add-t5 c = search needs
 
 returns-4 : tie.Need-returns-4
 returns-4 c = λ m n p q.
-    let e = fits-given m _ (sym (ap answerSays (c .before .before .before .before .before .a .given .1)) ∙ p) in
-    let f = fits-given n _ (sym (ap answerSays (c .before .before .b .given .1)) ∙ q) in
+    let e = fits-given m _ (sym p ∙ ap answerSays (c .before .before .before .before .before .a .given .1)) .1 in
+    let f = fits-given n _ (sym q ∙ ap answerSays (c .before .before .b .given .1)) .1 in
     ap₂ (λ (x y : ℕ). gives (x + y)) e f ∙ sym (fits-small (m + n) (omega arith))
 
 pub plus-spec : {M : Type 1} → statement M

@@ -1,13 +1,15 @@
 -- `cartesian::strides` meets its contract. Assumes nothing.
-use mathlib.Core.Path.{_≡_, refl, sym, ap, subst, _∙_}
-use mathlib.Core.Bool.{false}
-use Prim.Native.Nat.{ℕ}
+use mathlib.Core.Path.{_≡_, refl, sym, ap, _∙_}
+use mathlib.Core.Bool.{true, false}
+use Prim.Native.Nat.{_-_}
+use native.Mathlib.Omega.{arith}
 use borrow.Author.Needs.{needs}
 use borrow.Author.Tests.{lt-ltb, le-ltb}
+use lib.ListN.{length}
 use Rattle.positional.proofs.Strides.{strides-long}
-use Rattle.answers.specs.Says.{gives, answerSays}
-use Rattle.cartesian.specs.Checks.{tooBig}
-use Rattle.cartesian.proofs.Products.{partial-given}
+use Rattle.answers.specs.Says.{gives}
+use Rattle.cartesian.specs.Partial.{tooBig}
+use Rattle.cartesian.proofs.Products.{front-short, front-whole}
 use Rattle.cartesian.proofs.strides.Statement.{statement}
 use Rattle.cartesian.proofs.strides.Tie as tie
 
@@ -20,33 +22,41 @@ one-less-requires c κs = search needs
 partial-requires : tie.Need-partial-requires
 partial-requires c κs = search needs
 
-enum-told : tie.Need-enum-told
-enum-told c = search needs
-
-enum-told-2 : tie.Need-enum-told-2
-enum-told-2 c = search needs
-
 returns-2 : tie.Need-returns-2
 returns-2 c =
-    simp (le-ltb _ _ (c .before .before .before .before .if1 .left), sym (c .before .before .before .one-less .ensures), sym (c .before .before .partial .ensures), c .enum-told2 .given .1) (refl, refl)
+    let rs = c .before .before .before .before .before .before .before .args .radices .now in
+    let last = c .before .before .before .one-less in
+    let big : tooBig rs (length rs - 1) ≡ true =
+    ap (tooBig rs) (sym (last .ensures)) ∙ front-short rs (last .result) _ _ (c .before .before .partial .ensures) (c .if2 .taken) (omega (arith, last .ensures)) in
+    simp (le-ltb _ _ (c .before .before .before .before .if1 .left), big) (refl, refl)
 
 returns-3 : tie.Need-returns-3
 returns-3 c =
-    simp (le-ltb _ _ (c .before .before .before .before .before .if1 .left), sym (c .before .before .before .before .one-less .ensures), sym (c .before .before .before .partial .ensures), c .before .enum-told .given .1, lt-ltb _ _ (c .if2 .taken)) (refl, refl)
+    let rs = c .before .before .before .before .before .before .before .before .args .radices .now in
+    let last = c .before .before .before .before .one-less in
+    let small : tooBig rs (length rs - 1) ≡ false =
+    ap (tooBig rs) (sym (last .ensures)) ∙ front-whole rs (last .result) _ _ (c .before .before .before .partial .ensures) (c .before .if2 .left) in
+    simp (le-ltb _ _ (c .before .before .before .before .before .if1 .left), small, lt-ltb _ _ (c .if3 .taken)) (refl, refl)
 
 write-strides-requires : tie.Need-write-strides-requires
 write-strides-requires c κs =
     let rs = c .before .before .before .before .before .before .before .before .before .args .radices .now in
-    let p = partial-given rs (c .before .before .before .before .before .one-less .result) _ (sym (c .before .before .before .before .partial .ensures) ∙ ap answerSays (c .before .before .enum-told .given .1)) in
-    (subst (λ (n : ℕ). tooBig rs n ≡ false) (c .before .before .before .before .before .one-less .ensures) p, c .before .if2 .left)
+    let last = c .before .before .before .before .before .one-less in (
+      ap (tooBig rs) (sym (last .ensures)) ∙ front-whole rs (last .result) _ _ (c .before .before .before .before .partial .ensures) (c .before .before .if2 .left),
+      c .before .if3 .left,
+    )
 
 same-length : tie.Need-same-length
 same-length c = search needs
 
 returns-4 : tie.Need-returns-4
 returns-4 c =
-    simp (le-ltb _ _ (c .before .before .before .before .before .before .before .before .before .if1 .left), sym (c .before .before .before .before .before .before .before .before .one-less .ensures), sym (c .before .before .before .before .before .before .before .partial .ensures), c .before .before .before .before .before .enum-told .given .1, le-ltb _ _ (c .before .before .before .before .if2 .left))
-    (ap gives (sym (strides-long (c .before .before .before .before .before .before .before .before .before .before .before .before .args .radices .now))), c .before .before .write-strides .ensures)
+    let rs = c .before .before .before .before .before .before .before .before .before .before .before .before .args .radices .now in
+    let last = c .before .before .before .before .before .before .before .before .one-less in
+    let small : tooBig rs (length rs - 1) ≡ false =
+    ap (tooBig rs) (sym (last .ensures)) ∙ front-whole rs (last .result) _ _ (c .before .before .before .before .before .before .before .partial .ensures) (c .before .before .before .before .before .if2 .left) in
+    simp (le-ltb _ _ (c .before .before .before .before .before .before .before .before .before .if1 .left), small, le-ltb _ _ (c .before .before .before .before .if3 .left))
+    (ap gives (sym (strides-long rs)), c .before .before .write-strides .ensures)
 
 pub strides-spec : {M : Type 1} → statement M
 strides-spec =
@@ -55,8 +65,6 @@ strides-spec =
     returns
     one-less-requires
     partial-requires
-    enum-told
-    enum-told-2
     returns-2
     returns-3
     write-strides-requires

@@ -7,7 +7,7 @@ use borrow.Author.Needs.{needs}
 use borrow.Author.Tests.{leb-true, leb-false}
 use Rattle.answers.specs.Says.{answerSays}
 use Rattle.cartesian.specs.Checks.{fits}
-use Rattle.cartesian.proofs.Corners.{fits-small, fits-big, fits-given, stays-big}
+use Rattle.cartesian.proofs.Fits.{fits-small, fits-big, fits-given, stays-big}
 use Rattle.cartesian.proofs.times.Statement.{statement}
 use Rattle.cartesian.proofs.times.Tie as tie
 
@@ -28,7 +28,7 @@ exceeds-requires c κs = search needs
 
 returns-3 : tie.Need-returns-3
 returns-3 c = λ n p.
-    let e = fits-given n _ (sym (ap answerSays (c .before .before .before .a .given .1)) ∙ p) in
+    let e = fits-given n _ (sym p ∙ ap answerSays (c .before .before .before .a .given .1)) .1 in
     sym (ap (λ (x : ℕ). fits (x * c .before .before .before .before .before .before .args .r)) (sym e) ∙ fits-big (c .before .before .before .a .given .0 .0 * c .before .before .before .before .before .before .args .r) (leb-true (2 ^ 64) (c .before .before .before .a .given .0 .0 * c .before .before .before .before .before .before .args .r) (sym (c .before .exceeds .ensures) ∙ c .if2 .taken)))
 
 mul-t7 : tie.Need-mul-t7
@@ -36,7 +36,7 @@ mul-t7 c = omega (arith, leb-false (2 ^ 64) (c .before .before .before .a .given
 
 returns-4 : tie.Need-returns-4
 returns-4 c = λ n p.
-    let e = fits-given n _ (sym (ap answerSays (c .before .before .before .a .given .1)) ∙ p) in
+    let e = fits-given n _ (sym p ∙ ap answerSays (c .before .before .before .a .given .1)) .1 in
     sym (ap (λ (x : ℕ). fits (x * c .before .before .before .before .before .before .args .r)) (sym e) ∙ fits-small (c .before .before .before .a .given .0 .0 * c .before .before .before .before .before .before .args .r) (leb-false (2 ^ 64) (c .before .before .before .a .given .0 .0 * c .before .before .before .before .before .before .args .r) (sym (c .before .exceeds .ensures) ∙ c .if2 .left)))
 
 pub times-spec : {M : Type 1} → statement M

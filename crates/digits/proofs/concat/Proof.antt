@@ -5,7 +5,8 @@ use native.Mathlib.Omega.{arith}
 use borrow.Author.Tests.{lt-ltb, le-ltb, eq-eqb, ne-eqb}
 use Rattle.answers.specs.Says.{answerSays}
 use Rattle.digits.specs.Rules.{given, joinSays}
-use Rattle.digits.proofs.Rules.{known, given-passed, given-refused, fits-given, fits-refused}
+use Rattle.cartesian.proofs.Fits.{fits-given, fits-refused}
+use Rattle.digits.proofs.Rules.{known, given-passed, given-refused}
 use Rattle.digits.proofs.Joining.{concat-passed, joint-rank, joined-given}
 use borrow.Author.Needs.{needs}
 use Rattle.digits.proofs.concat.Statement.{statement}

@@ -5,7 +5,7 @@ use borrow.Author.Tests.{lt-ltb, le-ltb, lt-leb}
 use lib.ListN.{length}
 use Rattle.answers.specs.Says.{answerSays}
 use Rattle.bits.proofs.Member.{reaches-not}
-use Rattle.digits.proofs.Rules.{fits-given, fits-refused}
+use Rattle.cartesian.proofs.Fits.{fits-given, fits-refused}
 use borrow.Author.Needs.{needs}
 use Rattle.digits.proofs.from_symbols.Statement.{statement}
 use Rattle.digits.proofs.from_symbols.Tie as tie
