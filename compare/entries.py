@@ -367,10 +367,10 @@ RULES = [
     ("D27", "merge", [1], "answer",
      lambda c: accepted(c) and shifted(c.families[0], max(c.alphabets), sum(x.bit_count() for x in c.a)) > 64 and bare(c)),
     ("D1", "unrankany", [3], "answer", lambda c: c.a[0] == 0 < c.a[1] and c.gives(64, 0)),
-    ("D2", "linearize", [9], "answer", lambda c: past(c.a) and c.gives(linear(c.a, c.b))),
+    ("D2", "linearize", [9], "answer", lambda c: prod(c.a) >= LIMIT and c.gives(linear(c.a, c.b))),
     ("D4", "digitconcat", [9], "answer", lambda c: not any(map(too_many, digit_words(c))) and c.gives(*digit_answer(c))),
     ("D3", DIGITS, [9], "answer", lambda c: any(map(too_many, digit_words(c))) and c.gives(*digit_answer(c))),
-    ("D5", "delinearize", [9], "answer", lambda c: past(c.b) and c.gives(*taken_apart(c.a[0], c.b))),
+    ("D5", "delinearize", [9], "answer", lambda c: prod(c.b) >= LIMIT and c.gives(*taken_apart(c.a[0], c.b))),
     ("D6", "complement", [7], "answer", lambda c: accepted(c) and bare(c)),
     ("D7", "linearize", [7], "answer", lambda c: any(d >= r for r, d in zip(c.a, c.b)) and c.gives(linear(c.a, c.b))),
     ("D8", "delinearize", [3], "answer", lambda c: c.a[0] >= prod(c.b) and c.gives(*taken_apart(c.a[0], c.b))),
@@ -396,6 +396,7 @@ RULES = [
     ("D17", "strides", [None, 8], "panic overflow", lambda c: past(c.a) and not past(c.a[:-1])),
     ("D17", "corner", [None], "panic overflow", corner_overflows_past),
     ("D18", "corner", [None], "panic overflow", lambda c: past(c.b[:highest(c.a[0])])),
+    ("D28", "shapecount", [None], "panic overflow", lambda c: past(c.a) and 0 in c.a),
     ("D19", "unrank unrankover", [1], "not run D19", any_input),
     ("D19", "unrankany", [3], "not run D19", any_input),
     ("D20", "digitstabilizer", [None, 1, 3, 9], "not run D20", any_input),
@@ -502,7 +503,7 @@ def stop_of(c):
     if c.outcome == "panic overflow":
         return "D15" if c.refused is not None and stated(c) >= LIMIT else None
     if c.outcome == "panic zero" and (c.verb == "delinearize" or c.verb in DIGITS.split()):
-        return "D16" if c.refused in (1, 3, 9) and zero_radix(c) else None
+        return "D16" if c.refused in (1, 3) and zero_radix(c) else None
     return None
 
 

@@ -289,10 +289,6 @@ def shape(radices):
     refuse_if(len(radices) > 16, TOO_WIDE)
 
 
-def refuse_big(radices):
-    refuse_if(any(prod(radices[:j]) >= 2**64 for j in range(len(radices) + 1)), TOO_BIG)
-
-
 def lend(room, values):
     refuse_if(len(values) > room, SHAPE)
     return values
@@ -304,13 +300,13 @@ def exact_strides(radices):
 
 def shape_count(radices):
     shape(radices)
-    refuse_big(radices)
-    return prod(radices)
+    return fitting(prod(radices))
 
 
 def strides(room, radices):
     shape(radices)
-    refuse_big(radices[:-1])
+    for stride in exact_strides(radices):
+        fitting(stride)
     return lend(room, exact_strides(radices))
 
 
@@ -318,7 +314,7 @@ def linearize(radices, digits):
     shape(radices)
     refuse_if(len(radices) != len(digits), SHAPE)
     refuse_if(any(d >= r for r, d in zip(radices, digits)), OUTSIDE)
-    refuse_big(radices)
+    fitting(prod(radices))
     return sum(s * d for s, d in zip(exact_strides(radices), digits))
 
 

@@ -5,8 +5,8 @@
 --   partial-stops, partial-ends    where one product more is 2^64 or more, and where none is: how far the front reaches
 --   front-short, front-whole    what the rule of strides says where the front stops short, and where it does not
 --   vanishing-here, vanishing-turn, vanishing-ends    whether the product from an axis up is 0: a radix 0, any other, and none
---   product-whole, product-none, product-past    the product of all radices: where the front has them all; where it has not, with a radix 0 further on, and with none
-use mathlib.Core.Path.{_≡_, refl, sym, ap, subst, _∙_}
+--   product-whole, product-none, product-past    the product of all radices: where the front has them all; where there is a radix 0 above; and where there is none
+use mathlib.Core.Path.{_≡_, refl, sym, ap, ap₂, subst, _∙_}
 use mathlib.Core.Bool.{Bool, true, false}
 use mathlib.Core.Logic.{_⊎_, inl, inr}
 use mathlib.Core.List.{List}
@@ -121,21 +121,17 @@ product-whole rs p i f e =
     let q : p ≡ product rs = f .is ∙ stride-all rs i (omega arith) in
     ap gives q ∙ sym (fits-small (product rs) (omega (arith, q, stride-fits rs i i (f .small) (le-refl i), f .is)))
 
--- the front, the radix that stops it and those above it
-product-parts : (rs : List ℕ) (p i : ℕ) → Front rs (length rs) p i → i < length rs → product rs ≡ p * getD rs i 0 * product (drop (i + 1) rs)
-product-parts rs p i f h =
-    product-split rs i
-    ∙ ap (λ (s : ℕ). s * product (drop i rs)) (sym (f .is))
-    ∙ ap (λ (q : ℕ). p * q) (product-from rs i h)
-    ∙ sym (mul-assoc p (getD rs i 0) (product (drop (i + 1) rs)))
-
-pub product-none : (rs : List ℕ) (p i : ℕ) → Front rs (length rs) p i → i < length rs → eqb (product (drop (i + 1) rs)) 0 ≡ true → gives 0 ≡ fits (product rs)
-product-none rs p i f h e =
-    let z : product rs ≡ 0 =
-    product-parts rs p i f h ∙ ap (λ (q : ℕ). p * getD rs i 0 * q) (eqb-true (product (drop (i + 1) rs)) 0 e) ∙ mul-zero (p * getD rs i 0) in
+pub product-none : (rs : List ℕ) (i : ℕ) → eqb (product (drop i rs)) 0 ≡ true → gives 0 ≡ fits (product rs)
+product-none rs i e =
+    let z : product rs ≡ 0 = product-split rs i ∙ ap (λ (q : ℕ). stride rs i * q) (eqb-true (product (drop i rs)) 0 e) ∙ mul-zero (stride rs i) in
     sym (ap fits z ∙ fits-small 0 (omega arith))
 
-pub product-past : (rs : List ℕ) (p i : ℕ) → Front rs (length rs) p i → i < length rs → eqb (product (drop (i + 1) rs)) 0 ≡ false → refuses 9 ≡ fits (product rs)
+pub product-past : (rs : List ℕ) (p i : ℕ) → Front rs (length rs) p i → i < length rs → eqb (product (drop i rs)) 0 ≡ false → refuses 9 ≡ fits (product rs)
 product-past rs p i f h e =
-    let some : 0 < product (drop (i + 1) rs) = omega (arith, eqb-false (product (drop (i + 1) rs)) 0 e) in
-    sym (fits-big (product rs) (omega (arith, f .stops h, product-parts rs p i f h, le-mul-of-pos-right (p * getD rs i 0) some)))
+    let r : ℕ = getD rs i 0 in
+    let q : ℕ = product (drop (i + 1) rs) in
+    let n : (r ≡ 0 → ⊥) = λ z. omega (arith, f .stops h, ap (λ (s : ℕ). p * s) z, mul-zero p) in
+    let some : 0 < q = omega (arith, eqb-false q 0 (sym (vanishing-turn rs i h n) ∙ e)) in
+    let parts : product rs ≡ p * r * q =
+    product-split rs i ∙ ap₂ (λ (a b : ℕ). a * b) (sym (f .is)) (product-from rs i h) ∙ sym (mul-assoc p r q) in
+    sym (fits-big (product rs) (omega (arith, f .stops h, parts, le-mul-of-pos-right (p * r) some)))

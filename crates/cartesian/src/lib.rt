@@ -72,10 +72,11 @@ fn size(radices: &[u64]) -> Answer
     if axes == radices.len() {
         return Answer::Is(front.product);
     }
-    if vanishes(radices, axes + 1) {
-        return Answer::Is(0);
+    if vanishes(radices, axes) {
+        Answer::Is(0)
+    } else {
+        Answer::Refused(Refusal::TooBig)
     }
-    Answer::Refused(Refusal::TooBig)
 }
 
 // How many digit tuples a shape has: 1 if it has more than 16 axes; 9.

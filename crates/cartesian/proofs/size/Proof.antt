@@ -14,17 +14,12 @@ returns c =
     let rs = c .before .before .before .args .radices .now in
     product-whole rs _ _ (c .before .partial .ensures) (c .if1 .taken)
 
-add-vanishes : tie.Need-add-vanishes
-add-vanishes c = search needs
-
 vanishes-requires : tie.Need-vanishes-requires
 vanishes-requires c κs = search needs
 
 returns-2 : tie.Need-returns-2
 returns-2 c =
-    let rs = c .before .before .before .before .before .args .radices .now in
-    let f = c .before .before .before .partial .ensures in
-    product-none rs _ _ f (omega (arith, f .within, c .before .before .if1 .left)) (sym (c .before .vanishes .ensures) ∙ c .if2 .taken)
+    product-none (c .before .before .before .before .before .args .radices .now) (c .before .before .before .partial .result .axes) (sym (c .before .vanishes .ensures) ∙ c .if2 .taken)
 
 returns-3 : tie.Need-returns-3
 returns-3 c =
@@ -35,4 +30,4 @@ returns-3 c =
 pub size-spec : {M : Type 1} → statement M
 size-spec =
     tie.close
-    (tie.spec partial-requires returns add-vanishes vanishes-requires returns-2 returns-3)
+    (tie.spec partial-requires returns vanishes-requires returns-2 returns-3)
