@@ -1,12 +1,9 @@
 -- The products of the first radices. Each is handed out as a stride, so strides, and no other call, are judged by them (02, section 4). Assumes nothing.
 --   tooBig rs n    is the product of the first j radices 2^64 or more for some j up to n?
---   Front rs n p i    the first i radices, of at most n, as far as no such product is 2^64 or more; p is their product
-use mathlib.Core.Path.{_≡_}
-use mathlib.Core.Bool.{Bool, true, false}
+use mathlib.Core.Bool.{Bool, true}
 use mathlib.Core.List.{List}
-use Prim.Native.Nat.{ℕ, zero, suc, _*_, _^_, _<_, _≤_}
+use Prim.Native.Nat.{ℕ, zero, suc, _^_}
 use lib.Dec.{leb}
-use lib.ListN.{getD}
 use Rattle.words.specs.Pick.{pick}
 use Rattle.positional.specs.Positional.{stride}
 
@@ -17,9 +14,3 @@ someUpTo t (suc n) = pick (someUpTo t n) true (t (suc n))
 
 abbrev pub tooBig : List ℕ → ℕ → Bool
 tooBig rs n = someUpTo (λ j. leb (2 ^ 64) (stride rs j)) n
-
-pub record Front (rs : List ℕ) (n p i : ℕ) : Type 0 where
-  pub within : i ≤ n
-  pub is : p ≡ stride rs i
-  pub small : tooBig rs i ≡ false
-  pub stops : i < n → 2 ^ 64 ≤ p * getD rs i 0

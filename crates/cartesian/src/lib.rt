@@ -4,12 +4,12 @@ ghost use mathlib.Core.Path.{_≡_};
 ghost use mathlib.Core.Bool.{false};
 ghost use mathlib.Core.List.{_++_};
 ghost use Prim.Native.Nat.{ℕ, _+_, _*_, _-_, _^_, _<_, _≤_};
-ghost use lib.Dec.{leb, eqb};
+ghost use lib.Dec.{leb};
 ghost use lib.ListN.{length, drop};
 ghost use Rattle.positional.specs.Positional.{product as productOf, strides as stridesOf, Digits, numberOf, digitsOf};
 ghost use Rattle.answers.specs.Says.{answerSays, placesOf, after};
 ghost use Rattle.cartesian.specs.Checks.{fits, within as withinOf};
-ghost use Rattle.cartesian.specs.Partial.{tooBig, Front as FrontOf};
+ghost use Rattle.cartesian.specs.Partial.{tooBig};
 ghost use Rattle.cartesian.specs.Rules.{countSays, stridesSays, linearizeSays, delinearizeSays, cornerSays};
 use answers::Answer;
 use answers::Refusal;
@@ -24,59 +24,37 @@ pub fn exceeds(a: u64, b: u64) -> bool
     u64::MAX / a < b
 }
 
-// The first radices of a shape, and their product.
-struct Front {
-    axes: usize,
-    product: u64,
-}
-
-// The first radices, at most so many of them, as far as the product of these, and of fewer of them, is below 2^64.
-fn partial(radices: &[u64], upto: usize) -> Front
-    requires { ⌜ upto ≤ length (now radices) ⌝ }
-    ensures { λ r. ⌜ FrontOf (now (radices .entry)) upto (r .product) (r .axes) ⌝ }
+// The product of the radices, where that of those from an axis up is 2^64 or more: 0 if a radix below is 0, and otherwise 9.
+fn past(radices: &[u64], from: usize) -> Answer
+    requires { ⌜ (from ≤ length (now radices)) × (2 ^ 64 ≤ productOf (drop from (now radices))) ⌝ }
+    ensures { λ r. ⌜ answerSays r ≡ fits (productOf (now (radices .entry))) ⌝ }
 {
-    let mut product: u64 = 1;
     let mut i = 0;
-    while i < upto {
+    while i < from {
         let r = radices[i];
-        if exceeds(product, r) {
-            return Front { axes: i, product };
-        }
-        product *= r;
-        i += 1;
-    }
-    Front { axes: i, product }
-}
-
-// Whether one of the radices from an axis up is 0, and so their product.
-fn vanishes(radices: &[u64], from: usize) -> bool
-    requires { ⌜ from ≤ length (now radices) ⌝ }
-    ensures { λ r. ⌜ r ≡ eqb (productOf (drop from (now (radices .entry)))) 0 ⌝ }
-{
-    let mut i = from;
-    while i < radices.len() {
-        if radices[i] == 0 {
-            return true;
+        if r == 0 {
+            return Answer::Is(r);
         }
         i += 1;
     }
-    false
+    Answer::Refused(Refusal::TooBig)
 }
 
-// The product of the radices: 9 if it is 2^64 or more. Where a product of the first of them is, a radix 0 further on still makes it 0.
+// The product of the radices, from the last down: 9 if it is 2^64 or more.
 fn size(radices: &[u64]) -> Answer
     ensures { λ r. ⌜ answerSays r ≡ fits (productOf (now (radices .entry))) ⌝ }
 {
-    let front = partial(radices, radices.len());
-    let axes = front.axes;
-    if axes == radices.len() {
-        return Answer::Is(front.product);
+    let mut product: u64 = 1;
+    let mut i = radices.len();
+    while 0 < i {
+        i -= 1;
+        let r = radices[i];
+        if exceeds(product, r) {
+            return past(radices, i);
+        }
+        product *= r;
     }
-    if vanishes(radices, axes) {
-        Answer::Is(0)
-    } else {
-        Answer::Refused(Refusal::TooBig)
-    }
+    Answer::Is(product)
 }
 
 // How many digit tuples a shape has: 1 if it has more than 16 axes; 9.
@@ -87,6 +65,24 @@ pub fn shape_count(radices: &[u64]) -> Answer
         return Answer::Refused(Refusal::TooWide);
     }
     size(radices)
+}
+
+// Whether the product of the first j radices is 2^64 or more for some j up to the given one.
+fn too_big(radices: &[u64], upto: usize) -> bool
+    requires { ⌜ upto ≤ length (now radices) ⌝ }
+    ensures { λ r. ⌜ r ≡ tooBig (now (radices .entry)) upto ⌝ }
+{
+    let mut stride: u64 = 1;
+    let mut i = 0;
+    while i < upto {
+        let r = radices[i];
+        if exceeds(stride, r) {
+            return true;
+        }
+        stride *= r;
+        i += 1;
+    }
+    false
 }
 
 // Writes the strides. The last radix is in none of them.
@@ -121,9 +117,7 @@ pub fn strides(radices: &[u64], out: &mut [u64]) -> Answer
     if 16 < n {
         return Answer::Refused(Refusal::TooWide);
     }
-    let last = one_less(n);
-    let front = partial(radices, last);
-    if front.axes < last {
+    if too_big(radices, one_less(n)) {
         return Answer::Refused(Refusal::TooBig);
     }
     if out.len() < n {

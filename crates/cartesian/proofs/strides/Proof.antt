@@ -2,14 +2,12 @@
 use mathlib.Core.Path.{_≡_, refl, sym, ap, _∙_}
 use mathlib.Core.Bool.{true, false}
 use Prim.Native.Nat.{_-_}
-use native.Mathlib.Omega.{arith}
 use borrow.Author.Needs.{needs}
 use borrow.Author.Tests.{lt-ltb, le-ltb}
 use lib.ListN.{length}
 use Rattle.positional.proofs.Strides.{strides-long}
 use Rattle.answers.specs.Says.{gives}
 use Rattle.cartesian.specs.Partial.{tooBig}
-use Rattle.cartesian.proofs.Products.{front-short, front-whole}
 use Rattle.cartesian.proofs.strides.Statement.{statement}
 use Rattle.cartesian.proofs.strides.Tie as tie
 
@@ -19,30 +17,27 @@ returns c = simp (lt-ltb _ _ (c .if1 .taken)) (refl, refl)
 one-less-requires : tie.Need-one-less-requires
 one-less-requires c κs = search needs
 
-partial-requires : tie.Need-partial-requires
-partial-requires c κs = search needs
+too-big-requires : tie.Need-too-big-requires
+too-big-requires c κs = search needs
 
 returns-2 : tie.Need-returns-2
 returns-2 c =
-    let rs = c .before .before .before .before .before .before .before .args .radices .now in
-    let last = c .before .before .before .one-less in
+    let rs = c .before .before .before .before .before .before .args .radices .now in
     let big : tooBig rs (length rs - 1) ≡ true =
-    ap (tooBig rs) (sym (last .ensures)) ∙ front-short rs (last .result) _ _ (c .before .before .partial .ensures) (c .if2 .taken) (omega (arith, last .ensures)) in
-    simp (le-ltb _ _ (c .before .before .before .before .if1 .left), big) (refl, refl)
+    ap (tooBig rs) (sym (c .before .before .one-less .ensures)) ∙ sym (c .before .too-big .ensures) ∙ c .if2 .taken in
+    simp (le-ltb _ _ (c .before .before .before .if1 .left), big) (refl, refl)
 
 returns-3 : tie.Need-returns-3
 returns-3 c =
-    let rs = c .before .before .before .before .before .before .before .before .args .radices .now in
-    let last = c .before .before .before .before .one-less in
+    let rs = c .before .before .before .before .before .before .before .args .radices .now in
     let small : tooBig rs (length rs - 1) ≡ false =
-    ap (tooBig rs) (sym (last .ensures)) ∙ front-whole rs (last .result) _ _ (c .before .before .before .partial .ensures) (c .before .if2 .left) in
-    simp (le-ltb _ _ (c .before .before .before .before .before .if1 .left), small, lt-ltb _ _ (c .if3 .taken)) (refl, refl)
+    ap (tooBig rs) (sym (c .before .before .before .one-less .ensures)) ∙ sym (c .before .before .too-big .ensures) ∙ c .before .if2 .left in
+    simp (le-ltb _ _ (c .before .before .before .before .if1 .left), small, lt-ltb _ _ (c .if3 .taken)) (refl, refl)
 
 write-strides-requires : tie.Need-write-strides-requires
 write-strides-requires c κs =
-    let rs = c .before .before .before .before .before .before .before .before .before .args .radices .now in
-    let last = c .before .before .before .before .before .one-less in (
-      ap (tooBig rs) (sym (last .ensures)) ∙ front-whole rs (last .result) _ _ (c .before .before .before .before .partial .ensures) (c .before .before .if2 .left),
+    let rs = c .before .before .before .before .before .before .before .before .args .radices .now in (
+      ap (tooBig rs) (sym (c .before .before .before .before .one-less .ensures)) ∙ sym (c .before .before .before .too-big .ensures) ∙ c .before .before .if2 .left,
       c .before .if3 .left,
     )
 
@@ -51,11 +46,10 @@ same-length c = search needs
 
 returns-4 : tie.Need-returns-4
 returns-4 c =
-    let rs = c .before .before .before .before .before .before .before .before .before .before .before .before .args .radices .now in
-    let last = c .before .before .before .before .before .before .before .before .one-less in
+    let rs = c .before .before .before .before .before .before .before .before .before .before .before .args .radices .now in
     let small : tooBig rs (length rs - 1) ≡ false =
-    ap (tooBig rs) (sym (last .ensures)) ∙ front-whole rs (last .result) _ _ (c .before .before .before .before .before .before .before .partial .ensures) (c .before .before .before .before .before .if2 .left) in
-    simp (le-ltb _ _ (c .before .before .before .before .before .before .before .before .before .if1 .left), small, le-ltb _ _ (c .before .before .before .before .if3 .left))
+    ap (tooBig rs) (sym (c .before .before .before .before .before .before .before .one-less .ensures)) ∙ sym (c .before .before .before .before .before .before .too-big .ensures) ∙ c .before .before .before .before .before .if2 .left in
+    simp (le-ltb _ _ (c .before .before .before .before .before .before .before .before .if1 .left), small, le-ltb _ _ (c .before .before .before .before .if3 .left))
     (ap gives (sym (strides-long rs)), c .before .before .write-strides .ensures)
 
 pub strides-spec : {M : Type 1} → statement M
@@ -64,7 +58,7 @@ strides-spec =
     (tie.spec
     returns
     one-less-requires
-    partial-requires
+    too-big-requires
     returns-2
     returns-3
     write-strides-requires
