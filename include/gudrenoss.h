@@ -380,19 +380,18 @@ GUDRENOSS_MUST_USE gudrenoss_refusal gudrenoss_permutation_successor(gudrenoss_p
 /* ---- Shapes ----------------------------------------------------------------------------------------------------------------- */
 
 /* A shape is a list of radices, one for each axis, axis 0 least significant. Its count is their product, 1 for no axes. The stride of
- * an axis is the product of the radices before it. "9 by partial products" is given if the product of the first j radices is 2^64 or
- * more for some j up to the number of axes, though a later radix be 0. */
+ * an axis is the product of the radices before it. A radix 0, at whatever axis, makes the count 0. */
 
 /* How many lists of digits the shape has.
  *   1  there are more than 16 axes
- *   9  by partial products
+ *   9  the product of the radices is 2^64 or more
  *   *count: the product of the radices */
 GUDRENOSS_MUST_USE gudrenoss_refusal gudrenoss_shape_count(
     const uint64_t *radices, size_t radices_len, uint64_t *count);
 
 /* The strides.
  *   1  there are more than 16 axes
- *   9  by partial products, but with j only up to one less than the number of axes
+ *   9  a stride is 2^64 or more, though a later radix be 0
  *   8  strides_room is below the number of axes
  *   strides: the stride of each axis;  *written: the number of axes
  * Of (2, 3, 4) they are 1 2 6. */
@@ -403,7 +402,7 @@ GUDRENOSS_MUST_USE gudrenoss_refusal gudrenoss_shape_strides(
  *   1  there are more than 16 axes
  *   8  there are not as many digits as axes
  *   7  a digit is not below its radix
- *   9  by partial products
+ *   9  the product of the radices is 2^64 or more
  *   *number: the sum of each digit times its stride
  * Of (1, 2, 3) in (2, 3, 4) it is 23. */
 GUDRENOSS_MUST_USE gudrenoss_refusal gudrenoss_shape_linearize(
@@ -411,7 +410,7 @@ GUDRENOSS_MUST_USE gudrenoss_refusal gudrenoss_shape_linearize(
 
 /* The digits of a number.
  *   1  there are more than 16 axes
- *   9  by partial products
+ *   9  the product of the radices is 2^64 or more
  *   3  the number is not below the shape's count
  *   8  digits_room is below the number of axes
  *   digits: the digit of each axis;  *written: the number of axes */

@@ -1,5 +1,4 @@
-// Shapes, for programs in C (docs/RULES.md, section 9). A shape crosses as the slice of its radices, axis 0 first and least significant. "9 by partial products" is 9 if
-// for some j from 1 to the number of axes the product of the first j radices is 2^64 or more.
+// Shapes, for programs in C (docs/RULES.md, section 9). A shape crosses as the slice of its radices, axis 0 first and least significant.
 ghost use mathlib.Core.Path.{_≡_};
 ghost use lib.ListN.{length};
 ghost use Rattle.answers.specs.Says.{after, placesOf};
@@ -7,7 +6,7 @@ ghost use Rattle.cartesian.specs.Rules.{countSays, stridesSays, linearizeSays, 
 ghost use Rattle.boundary.specs.Boundary.{status, stored, itself};
 use boundary::Status;
 
-// How many digit tuples a shape has, the product of its radices: 1 if there are more than 16 axes; 9 by partial products.
+// How many digit tuples a shape has, the product of its radices: 1 if there are more than 16 axes; 9 if it is 2^64 or more.
 #[no_mangle]
 pub extern "C" fn gudrenoss_shape_count(radices: &[u64], count: &mut u64) -> Status
     ensures back { λ r. ⌜ r ≡ status (countSays (now (radices .entry))) ⌝ }
@@ -16,7 +15,7 @@ pub extern "C" fn gudrenoss_shape_count(radices: &[u64], count: &mut u64) -> Sta
     boundary::number(cartesian::shape_count(radices), count)
 }
 
-// The strides: 1 if there are more than 16 axes; 9 by partial products, with j only up to one less than the number of axes; 8 if the output has fewer places than
+// The strides: 1 if there are more than 16 axes; 9 if one is 2^64 or more; 8 if the output has fewer places than
 // there are axes.
 #[no_mangle]
 pub extern "C" fn gudrenoss_shape_strides(
@@ -31,7 +30,8 @@ pub extern "C" fn gudrenoss_shape_strides(
     boundary::number(cartesian::strides(radices, strides), written)
 }
 
-// The number of a digit tuple: 1 if there are more than 16 axes; 8 if there are not as many digits as axes; 7 if a digit is not below its radix; 9 by partial products.
+// The number of a digit tuple: 1 if there are more than 16 axes; 8 if there are not as many digits as axes; 7 if a digit is not below its radix; 9 if the product
+// of the radices is 2^64 or more.
 #[no_mangle]
 pub extern "C" fn gudrenoss_shape_linearize(
     radices: &[u64],
@@ -44,7 +44,7 @@ pub extern "C" fn gudrenoss_shape_linearize(
     boundary::number(cartesian::linearize(radices, digits), number)
 }
 
-// The digit tuple of a number: 1 if there are more than 16 axes; 9 by partial products; 3 if the number is not below the count; 8 if the output has fewer places than
+// The digit tuple of a number: 1 if there are more than 16 axes; 9 if the product of the radices is 2^64 or more; 3 if the number is not below the count; 8 if the output has fewer places than
 // there are axes.
 #[no_mangle]
 pub extern "C" fn gudrenoss_shape_delinearize(
