@@ -9,22 +9,24 @@
 --   factors-exchange    two neighbouring parts of a product, exchanged, keep the index or the refusal and multiply the sign by (-1) to the product of their
 --     degrees for Forbidden, and by plus for Allowed
 --   merge-exchanges    so a merge and its exchange; and of any two records, accepted or not, of one family or of two, they refuse with one number
+--   outer-factors-exchanged    the outer two of three, exchanged, do not turn the sign so: {0} {1} {2, 3} and {2, 3} {1} {0} differ by minus
 --   any-order    in any order and any bracketing a product has the same index, or the same refusal
 use mathlib.Core.Path.{_≡_, refl, sym, ap, ap₂, subst, _∙_}
-use mathlib.Core.Bool.{Bool, true, false, not}
-use mathlib.Core.Logic.{_↔_, Iff·trans}
+use mathlib.Core.Bool.{Bool, true, false}
+use mathlib.Core.Logic.{_↔_}
 use mathlib.Core.List.{List, [], _∷_, _++_, append-nil, append-assoc}
 use Prim.Native.Nat.{ℕ, zero, suc, _+_, _≤_, max}
 use native.Mathlib.Nat.{le-max-left, le-max-right, max-le, max-comm, max-zero, zero-max, le-trans, le-antisymm}
 use native.Mathlib.Omega.{arith}
-use borrow.Author.Tests.{ltb-true, ltb-false, lt-ltb, le-ltb}
-use lib.Dec.{ltb}
+use borrow.Author.Tests.{ltb-false, le-ltb}
 use lib.ListN.{length}
 use Rattle.words.specs.declared.Family.{Family}
 use Rattle.words.specs.declared.Family.the-variants.{Forbidden, Allowed}
 use Rattle.words.specs.Word.{Monotone, Below, shiftedAlphabet}
-use Rattle.words.specs.Inversions.{multiplicity, equalPairs, inversions}
-use Rattle.words.proofs.Word.{monotone-weaker, alphabet-some, below-more}
+use Rattle.words.specs.Bits.{bitsOf, onesFrom}
+use Rattle.words.specs.Inversions.{smallerIn, multiplicity, crossings, equalPairs, inversions}
+use Rattle.bits.specs.Member.{reaches}
+use Rattle.words.proofs.Word.{monotone-weaker, below-more}
 use Rattle.words.proofs.Inversions.{increasing-has-no-inversions, apart-is-no-equal-pairs, multiplicity-append}
 use Rattle.answers.specs.declared.Index.{Index}
 use Rattle.answers.specs.declared.Sign.{Sign}
@@ -36,7 +38,7 @@ use Rattle.answers.proofs.Says.{gives-no-refusal, passed}
 use Rattle.answers.proofs.Terms.{word-monotone, index-of-word}
 use Rattle.taking.specs.Taken.{tooWide, outside, Accepted}
 use Rattle.taking.proofs.Accepted.{accepted-passes, passes-accepted, narrow-alphabet, both-accepted}
-use Rattle.merging.specs.Sorting.{Rearranged, sorted, repeats}
+use Rattle.merging.specs.Sorting.{Rearranged, sorted, merged, repeats}
 use Rattle.merging.proofs.Sorting.{sorted-of-increasing}
 use Rattle.merging.proofs.Repeats.{repeats-append, strict-has-no-repeats}
 use Rattle.algebra.specs.Rules.{sameFamily, signIn, joinSays, mergeSays}
@@ -344,3 +346,13 @@ any-order F s t a r =
     ∙ rows-reordered F (largest (leaves s)) (row (leaves s)) (row (leaves t)) (row-reordered (leaves s) (leaves t) r)
     ∙ ap (λ (n : ℕ). indexAlone (rowSays F n (row (leaves t)))) (largest-reordered (leaves s) (leaves t) r)
     ∙ sym (ap indexAlone (product-is-the-row F t (all-reordered F (leaves s) (leaves t) a r)))
+
+-- ---- the outer two of three are no neighbours
+
+abbrev set : List ℕ → Index
+set w = indexOf Forbidden 4 w
+
+pub outer-factors-exchanged : (leftFirst (set (2 ∷ 3 ∷ [])) (set (1 ∷ [])) (set (0 ∷ [])) ≡ multiplied Minus (leftFirst (set (0 ∷ [])) (set (1 ∷ [])) (set (2 ∷ 3 ∷ []))))
+    × (exchangeSign Forbidden 1 2 ≡ Plus)
+unfolding bitsOf onesFrom smallerIn multiplicity crossings equalPairs merged reaches
+outer-factors-exchanged = (refl, refl)

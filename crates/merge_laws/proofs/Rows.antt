@@ -5,7 +5,7 @@
 --   rows-merge    what two rows give, merged, is what the two in a row give
 --   rows-exchange    two parts of a row that stand side by side, exchanged, multiply the sign by (-1) to the product of their lengths
 --   rows-reordered    in any order a row gives the same index, or the same refusal
-use mathlib.Core.Path.{_≡_, refl, sym, ap, ap₂, subst, _∙_}
+use mathlib.Core.Path.{_≡_, refl, sym, ap, ap₂, _∙_}
 use mathlib.Core.Bool.{Bool, true, false}
 use mathlib.Core.List.{List, [], _∷_, _++_}
 use Prim.Native.Nat.{ℕ, zero, suc, _+_, _*_, _≤_, _<_, max}
@@ -17,14 +17,13 @@ use lib.Dec.{ltb}
 use lib.ListN.{length, length-append}
 use Rattle.words.specs.declared.Family.{Family}
 use Rattle.words.specs.declared.Family.the-variants.{Forbidden, Allowed}
-use Rattle.words.specs.Word.{Monotone, Below, Word, shiftedAlphabet}
-use Rattle.words.specs.Inversions.{multiplicity, crossings, equalPairs, inversions, parity}
-use Rattle.words.proofs.Inversions.{inversions-append, crossings-append-left, crossings-append-right, crossings-both-ways, multiplicity-append}
-use Rattle.answers.specs.declared.Index.{Index}
+use Rattle.words.specs.Word.{Monotone, Below, shiftedAlphabet}
+use Rattle.words.specs.Inversions.{multiplicity, crossings, equalPairs, inversions}
+use Rattle.words.proofs.Inversions.{inversions-append, crossings-append-left, crossings-both-ways, multiplicity-append}
 use Rattle.answers.specs.declared.Sign.{Sign}
-use Rattle.answers.specs.Says.{Says, gives, refusedIf, andThen, Term}
+use Rattle.answers.specs.Says.{gives, refusedIf, andThen, Term}
 use Rattle.answers.specs.Signs.{signOf, times}
-use Rattle.answers.specs.Terms.{indexOf, wordOf}
+use Rattle.answers.specs.Terms.{indexOf}
 use Rattle.answers.proofs.Signs.{sign-of-parity, times-of-sum}
 use Rattle.answers.proofs.Terms.{word-of-index}
 use Rattle.taking.specs.Taken.{Accepted}
@@ -34,7 +33,7 @@ use Rattle.merging.proofs.Totals.{by-order}
 use Rattle.merging.proofs.Sorting.{sorted-increases, sorted-rearranges, sorted-is-the-one, sorted-same, length-rearranged, crossings-rearranged, equal-pairs-rearranged}
 use Rattle.merging.proofs.Repeats.{repeats-append, strict-has-no-repeats}
 use Rattle.merging.proofs.Merging.{merged-many, merged-increases}
-use Rattle.algebra.specs.Rules.{forbids, signIn, mergedSays, mergeSays}
+use Rattle.algebra.specs.Rules.{signIn, mergedSays, mergeSays}
 use Rattle.algebra.proofs.Over.{sorted-long}
 use Rattle.algebra.proofs.Gathering.{sorted-monotone}
 use Rattle.algebra.proofs.Promises.{by-words}

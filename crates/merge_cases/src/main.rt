@@ -1,0 +1,156 @@
+// Runs the laws of merging (docs/RULES.md, section 6; crate merge_laws) over the library's own calls: for each space of cases a line with how many
+// there are, what the calls answered, and how many cases differ from a law, and then the first of those. crates/merge_cases/stdout holds 0 of each.
+mod laws; // laws.rt: the laws of two records and of three
+mod spaces; // spaces.rt: the cases
+
+use laws::Triple;
+use spaces::Space;
+
+// What the cases of a space came to; `first` is the last that was found to differ, the cases being run from the last to the first.
+pub struct Tally {
+    answered: u64,
+    with_1: u64,
+    with_5: u64,
+    with_6: u64,
+    with_7: u64,
+    differ: u64,
+    first: Triple,
+    seed: u64,
+}
+
+fn main() {
+    line(b"exchanges of any two small records: ", Space::Pairs, 25600);
+    line(
+        b"exchanges of any two records at the limits: ",
+        Space::LimitPairs,
+        576,
+    );
+    line(b"small sets: ", Space::Small(false), 512000);
+    line(b"small words with repeats: ", Space::Small(true), 512000);
+    line(b"sets at the limits: ", Space::Limits(false), 1728);
+    line(
+        b"words with repeats at the limits: ",
+        Space::Limits(true),
+        1728,
+    );
+    line(b"wide sets: ", Space::Wide(false), 12000);
+    line(b"wide words with repeats: ", Space::Wide(true), 12000);
+}
+
+// The line of a space.
+fn line(name: &[u8], space: Space, size: u64) {
+    let tally = counted(space, size);
+    io::write_all(1, name);
+    part(tally.answered, b" answered, ");
+    part(tally.with_1, b" refused with 1, ");
+    part(tally.with_5, b" with 5, ");
+    part(tally.with_6, b" with 6, ");
+    part(tally.with_7, b" with 7, ");
+    part(tally.differ, b" differ\n");
+    if tally.differ != 0 {
+        let first = tally.first;
+        io::write_all(1, b"the first:");
+        let x = first.x;
+        let y = first.y;
+        let z = first.z;
+        record(x);
+        record(y);
+        record(z);
+        io::write_all(1, b"\n");
+    }
+}
+
+fn part(n: u64, after: &[u8]) {
+    io::print_decimal(1, n);
+    io::write_all(1, after);
+}
+
+// A record as the program ask writes one: its family, alphabet and bits.
+fn record(x: answers::Index) {
+    let family = x.family;
+    match family {
+        words::Family::Forbidden => {
+            io::write_all(1, b" forbidden ");
+        }
+        words::Family::Allowed => {
+            io::write_all(1, b" allowed ");
+        }
+    }
+    part(x.alphabet, b" ");
+    io::print_decimal(1, x.bits);
+}
+
+// The cases of a space, from the last to the first.
+fn counted(space: Space, size: u64) -> Tally {
+    let mut left = size;
+    let mut tally = empty();
+    while left > 0 {
+        left -= 1;
+        tally = with_case(tally, space, left);
+    }
+    tally
+}
+
+fn empty() -> Tally {
+    let x = spaces::small(false, 0);
+    let first = Triple { x, y: x, z: x };
+    Tally {
+        answered: 0,
+        with_1: 0,
+        with_5: 0,
+        with_6: 0,
+        with_7: 0,
+        differ: 0,
+        first,
+        seed: 88172645463325252,
+    }
+}
+
+// One case more: a pair is held to the law of two, and a triple of accepted records to those of three.
+fn with_case(tally: Tally, space: Space, t: u64) -> Tally {
+    let seed = spaces::next(tally.seed);
+    let case = spaces::triple(space, t, seed);
+    let mut out = tally;
+    out.seed = seed;
+    if spaces::is_of_two(space) {
+        return noted(
+            out,
+            case,
+            laws::of_two(case.x, case.y),
+            laws::exchanges(case.x, case.y),
+        );
+    }
+    if laws::accepted(case) {
+        return noted(out, case, laws::of_three(case), laws::hold(case));
+    }
+    out
+}
+
+// The number of a case's answer, 0 where it has no refusal, and whether its laws hold.
+fn noted(tally: Tally, case: Triple, number: u64, holds: bool) -> Tally {
+    let mut out = tally;
+    if number == 0 {
+        out.answered = more(out.answered);
+    }
+    if number == 1 {
+        out.with_1 = more(out.with_1);
+    }
+    if number == 5 {
+        out.with_5 = more(out.with_5);
+    }
+    if number == 6 {
+        out.with_6 = more(out.with_6);
+    }
+    if number == 7 {
+        out.with_7 = more(out.with_7);
+    }
+    if !holds {
+        out.differ = more(out.differ);
+        out.first = case;
+    }
+    out
+}
+
+fn more(n: u64) -> u64 {
+    std::num::wrapping_add_u64(n, 1)
+}
