@@ -7,7 +7,7 @@ use laws::Triple;
 use spaces::Space;
 
 // What the cases of a space came to; `first` is the last that was found to differ, the cases being run from the last to the first.
-pub struct Tally {
+struct Tally {
     answered: u64,
     with_1: u64,
     with_5: u64,
@@ -60,6 +60,7 @@ fn line(name: &[u8], space: Space, size: u64) {
     }
 }
 
+// A number, and what stands behind it.
 fn part(n: u64, after: &[u8]) {
     io::print_decimal(1, n);
     io::write_all(1, after);

@@ -42,8 +42,10 @@ use Rattle.merging.specs.Sorting.{Rearranged, sorted, merged, repeats}
 use Rattle.merging.proofs.Sorting.{sorted-of-increasing}
 use Rattle.merging.proofs.Repeats.{repeats-append, strict-has-no-repeats}
 use Rattle.algebra.specs.Rules.{sameFamily, signIn, joinSays, mergeSays}
+use Rattle.algebra.proofs.Over.{merged-below}
+use Rattle.algebra.proofs.Promises.{no-sign}
 use Rattle.merge_laws.specs.Bracketings.{multiplied, leftFirst, rightFirst, exchangeSign, Bracketing, leaf, join, leaves, mergeTerms, productOf, indexAlone, AllOf, row, largest, Apart, MayMerge, numberIn, stops, rowSays, Reordered}
-use Rattle.merge_laws.proofs.Rows.{whole, rows-merge, rows-exchange, rows-reordered}
+use Rattle.merge_laws.proofs.Rows.{merged-sorted, whole, rows-merge, rows-exchange, rows-reordered}
 
 -- ---- rows of indices
 
@@ -77,19 +79,21 @@ all-both : (F : Family) (xs ys : List Index) → AllOf F xs → AllOf F ys → A
 all-both F [] ys a b = b
 all-both F (x ∷ xs) ys a b = (a .0, a .1, all-both F xs ys (a .2) b)
 
-below-append : (n : ℕ) (u v : List ℕ) → Below n u → Below n v → Below n (u ++ v)
-below-append n [] v b d = d
-below-append n (x ∷ xs) v b d = (b .0, below-append n xs v (b .1) d)
+word-sorted : (x : Index) → sorted (wordOf x) ≡ wordOf x
+word-sorted x = sorted-of-increasing (wordOf x) (monotone-weaker (x .family) (wordOf x) (word-monotone x))
 
 largest-narrow : (F : Family) (xs : List Index) → AllOf F xs → largest xs ≤ 64
 largest-narrow F [] a = omega arith
 largest-narrow F (x ∷ xs) a = max-le (narrow-alphabet x (accepted-passes x (a .0) .0)) (largest-narrow F xs (a .2))
 
-row-below : (F : Family) (xs : List Index) → AllOf F xs → Below (largest xs) (row xs)
+row-below : (F : Family) (xs : List Index) → AllOf F xs → Below (largest xs) (sorted (row xs))
+unfolding sorted
 row-below F [] a = tt
 row-below F (x ∷ xs) a =
-    below-append (largest (x ∷ xs)) (wordOf x) (row xs) (below-more (x .alphabet) (largest (x ∷ xs)) (wordOf x) (le-max-left (x .alphabet) (largest xs)) (a .0 .over))
-    (below-more (largest xs) (largest (x ∷ xs)) (row xs) (le-max-right (x .alphabet) (largest xs)) (row-below F xs (a .2)))
+    subst (Below (largest (x ∷ xs))) (merged-sorted (wordOf x) (row xs))
+    (merged-below (largest (x ∷ xs)) (sorted (wordOf x)) (sorted (row xs))
+    (subst (Below (largest (x ∷ xs))) (sym (word-sorted x)) (below-more (x .alphabet) (largest (x ∷ xs)) (wordOf x) (le-max-left (x .alphabet) (largest xs)) (a .0 .over)))
+    (below-more (largest xs) (largest (x ∷ xs)) (sorted (row xs)) (le-max-right (x .alphabet) (largest xs)) (row-below F xs (a .2))))
 
 -- ---- a bracketing answers what its row does
 
@@ -104,16 +108,11 @@ one-passes Allowed x a f =
     fits zero h = omega arith
     fits (suc k) h = omega arith
 
-plus-of-none : (F : Family) → signIn F 0 ≡ Plus
-plus-of-none Forbidden = refl
-plus-of-none Allowed = refl
-
 one-is-its-row : (F : Family) (x : Index) → Accepted x → x .family ≡ F → gives (record { sign = Plus; index = x }) ≡ rowSays F (x .alphabet) (wordOf x)
 one-is-its-row F x a f =
-    let sign : signIn F (inversions (wordOf x)) ≡ Plus = ap (signIn F) (increasing-has-no-inversions (x .family) (wordOf x) (word-monotone x)) ∙ plus-of-none F in
+    let sign : signIn F (inversions (wordOf x)) ≡ Plus = ap (signIn F) (increasing-has-no-inversions (x .family) (wordOf x) (word-monotone x)) ∙ no-sign F in
     let index : indexOf F (x .alphabet) (sorted (wordOf x)) ≡ x =
-    ap (indexOf F (x .alphabet)) (sorted-of-increasing (wordOf x) (monotone-weaker (x .family) (wordOf x) (word-monotone x)))
-    ∙ ap (λ (G : Family). indexOf G (x .alphabet) (wordOf x)) (sym f) ∙ index-of-word x in
+    ap (indexOf F (x .alphabet)) (word-sorted x) ∙ ap (λ (G : Family). indexOf G (x .alphabet) (wordOf x)) (sym f) ∙ index-of-word x in
     sym (ap (λ (t : Bool). refusedIf t (numberIn F) (gives (whole F (x .alphabet) (wordOf x)))) (one-passes F x a f)
     ∙ ap₂ (λ (s : Sign) (y : Index). gives (record { sign = s; index = y })) sign index)
 

@@ -1,6 +1,7 @@
 -- What the words of a row give, without a bracket. Assumes nothing.
 --   repeats-rearranged    the repeats of a list do not depend on its order
 --   stops-rearranged    so neither does whether a row has a product
+--   merged-sorted    two lists, sorted and merged, are the two in a row, sorted
 --   whole F n w    the term of a row
 --   rows-merge    what two rows give, merged, is what the two in a row give
 --   rows-exchange    two parts of a row that stand side by side, exchanged, multiply the sign by (-1) to the product of their lengths
@@ -28,8 +29,7 @@ use Rattle.answers.proofs.Signs.{sign-of-parity, times-of-sum}
 use Rattle.answers.proofs.Terms.{word-of-index}
 use Rattle.taking.specs.Taken.{Accepted}
 use Rattle.taking.proofs.Accepted.{index-accepted}
-use Rattle.merging.specs.Sorting.{Rearranged, insert, sorted, merged, repeats}
-use Rattle.merging.proofs.Totals.{by-order}
+use Rattle.merging.specs.Sorting.{Rearranged, sorted, merged, repeats}
 use Rattle.merging.proofs.Sorting.{sorted-increases, sorted-rearranges, sorted-is-the-one, sorted-same, length-rearranged, crossings-rearranged, equal-pairs-rearranged}
 use Rattle.merging.proofs.Repeats.{repeats-append, strict-has-no-repeats}
 use Rattle.merging.proofs.Merging.{merged-many, merged-increases}
@@ -96,16 +96,6 @@ words-merge Allowed n u v h m l =
 
 -- ---- the index of a row
 
-insert-below : (n x : ℕ) (w : List ℕ) → x < n → Below n w → Below n (insert x w)
-unfolding insert
-insert-below n x [] h b = (h, tt)
-insert-below n x (y ∷ ys) h b = by-order (Below n) x y (λ l. (h, b)) (λ l. (b .0, insert-below n x ys h (b .1)))
-
-sorted-below : (n : ℕ) (w : List ℕ) → Below n w → Below n (sorted w)
-unfolding sorted
-sorted-below n [] b = tt
-sorted-below n (x ∷ xs) b = insert-below n x (sorted xs) (b .0) (sorted-below n xs (b .1))
-
 row-monotone : (F : Family) (n : ℕ) (w : List ℕ) → stops F n w ≡ false → Monotone F (sorted w)
 row-monotone Forbidden n w e = sorted-monotone Forbidden w e
 row-monotone Allowed n w e = sorted-increases w
@@ -114,10 +104,10 @@ row-narrow : (F : Family) (n : ℕ) (w : List ℕ) → n ≤ 64 → stops F n w 
 row-narrow Forbidden n w h e = h
 row-narrow Allowed n w h e = ltb-false 64 (shiftedAlphabet Allowed n (length w)) (width n (length w) h ∙ e)
 
-row-accepted : (F : Family) (n : ℕ) (w : List ℕ) → n ≤ 64 → Below n w → stops F n w ≡ false → Accepted (indexOf F n (sorted w))
+row-accepted : (F : Family) (n : ℕ) (w : List ℕ) → n ≤ 64 → Below n (sorted w) → stops F n w ≡ false → Accepted (indexOf F n (sorted w))
 row-accepted F n w h b e =
     index-accepted F n (length w) (sorted w) (row-narrow F n w h e)
-    (record { long = sorted-long w; monotone = row-monotone F n w e; below = sorted-below n w b })
+    (record { long = sorted-long w; monotone = row-monotone F n w e; below = b })
 
 -- ---- two rows
 
@@ -125,7 +115,7 @@ both-sorted : (u v : List ℕ) → Rearranged (sorted u ++ sorted v) (u ++ v)
 both-sorted u v x =
     omega (arith, multiplicity-append x (sorted u) (sorted v), multiplicity-append x u v, sorted-rearranges u x, sorted-rearranges v x)
 
-merged-sorted : (u v : List ℕ) → merged (sorted u) (sorted v) ≡ sorted (u ++ v)
+pub merged-sorted : (u v : List ℕ) → merged (sorted u) (sorted v) ≡ sorted (u ++ v)
 merged-sorted u v =
     sorted-is-the-one (u ++ v) (merged (sorted u) (sorted v)) (merged-increases (sorted u) (sorted v) (sorted-increases u) (sorted-increases v))
     (λ x. omega (arith, multiplicity-append x u v, merged-many x (sorted u) (sorted v), sorted-rearranges u x, sorted-rearranges v x))
@@ -145,7 +135,7 @@ sign-within s false d a = refl
 abbrev pub whole : Family → ℕ → List ℕ → Term
 whole F n w = record { sign = signIn F (inversions w); index = indexOf F n (sorted w) }
 
-both-pass : (F : Family) (m n : ℕ) (u v : List ℕ) → m ≤ 64 → n ≤ 64 → Below m u → Below n v → stops F m u ≡ false → stops F n v ≡ false
+both-pass : (F : Family) (m n : ℕ) (u v : List ℕ) → m ≤ 64 → n ≤ 64 → Below m (sorted u) → Below n (sorted v) → stops F m u ≡ false → stops F n v ≡ false
     → mergeTerms (whole F m u) (whole F n v) ≡ rowSays F (max m n) (u ++ v)
 both-pass F m n u v h k b d e f =
     let merges : mergeSays (indexOf F m (sorted u)) (indexOf F n (sorted v)) ≡ refusedIf (stops F (max m n) (sorted u ++ sorted v)) (numberIn F) (gives (joint F (max m n) (sorted u) (sorted v))) =
@@ -160,7 +150,7 @@ both-pass F m n u v h k b d e f =
     ∙ ap₂ (λ (t : Bool) (a : Term). refusedIf t (numberIn F) (gives a)) (stops-rearranged F (max m n) (sorted u ++ sorted v) (u ++ v) (both-sorted u v))
     (ap₂ (λ (s : Sign) (w : List ℕ). record { sign = s; index = indexOf F (max m n) w }) signs (merged-sorted u v))
 
-pub rows-merge : (F : Family) (m n : ℕ) (u v : List ℕ) → m ≤ 64 → n ≤ 64 → Below m u → Below n v
+pub rows-merge : (F : Family) (m n : ℕ) (u v : List ℕ) → m ≤ 64 → n ≤ 64 → Below m (sorted u) → Below n (sorted v)
     → andThen (rowSays F m u) (λ a. andThen (rowSays F n v) (λ b. mergeTerms a b)) ≡ rowSays F (max m n) (u ++ v)
 rows-merge F m n u v h k b d = go (stops F m u) refl (stops F n v) refl
   where
