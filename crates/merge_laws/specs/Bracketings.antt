@@ -4,6 +4,7 @@
 --   exchangeSign F k l    what the exchange of factors of degrees k and l multiplies the sign by: (-1)^(k l) for Forbidden, plus for Allowed
 --   Bracketing    in which order a row of indices is merged: a single index, or two such whose results are merged
 --   leaves t    its indices, from left to right
+--   mergeTerms a b    two results merged, with the product of their signs and that of the merge
 --   productOf t    what its merges answer: the first refusal, or the index with the product of the signs of all its merges
 --   indexAlone a    an answer without its sign
 --   AllOf F xs    every index of the row is accepted, and of family F
@@ -58,7 +59,6 @@ abbrev pub leaves : Bracketing → List Index
 leaves (leaf x) = x ∷ []
 leaves (join s t) = leaves s ++ leaves t
 
--- two results merged, with the product of their signs and that of the merge
 abbrev pub mergeTerms : Term → Term → Says Term
 mergeTerms a b = multiplied (times (a .sign) (b .sign)) (mergeSays (a .index) (b .index))
 
