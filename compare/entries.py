@@ -240,6 +240,11 @@ def shape_answer(c):
     return [sum(s for i, s in enumerate(partial_products(c.b)[:-1]) if c.a[0] >> i & 1)]
 
 
+def longest(c):
+    """The greatest length of a permutation that the call takes."""
+    return 20 if c.verb in ("permrank", "permnext") else 64
+
+
 def permutation_answer(c):
     if c.verb == "permrank":
         return [sum(factorial(j) * sum(x < y for x in c.a[:j]) for j, y in enumerate(c.a))]
@@ -384,7 +389,7 @@ RULES = [
     ("D11c", "canonical", [1], "none", lambda c: len(c.a) > 64 and c.families == ["forbidden"] and len(set(c.a)) < len(c.a)),
     ("D11d", "walk", [1], "answer", walked),
     ("D11d", "walk", [1], "none", walk_ended),
-    ("D11e", PERMUTATIONS, [1], "answer", lambda c: any(len(p) > 20 for p in lists_of(c)) and c.gives(*permutation_answer(c))),
+    ("D11e", PERMUTATIONS, [1], "answer", lambda c: any(len(p) > longest(c) for p in lists_of(c)) and c.gives(*permutation_answer(c))),
     ("D11f", SHAPES, [1], "answer", lambda c: len(axes(c)) > 16 and c.gives(*shape_answer(c))),
     ("D22", "digitcount digitsymbol digitconcat", [1], "answer", lambda c: exponent(c) >= CUT and c.gives(*cut_answer(c))),
     ("D11g", DIGITS, [1], "answer",

@@ -241,10 +241,10 @@ static void sets(void)
 static gudrenoss_permutation arranged(unsigned n, unsigned kind)
 {
     gudrenoss_permutation p = {{0}, n};
-    for (unsigned i = 0; i < n && i < 20; i++) {
+    for (unsigned i = 0; i < n && i < 64; i++) {
         p.entries[i] = kind == 0 ? i : n - 1 - i;
     }
-    for (unsigned i = n < 20 ? n : 20; kind >= 2 && i > 1; i--) {
+    for (unsigned i = n < 64 ? n : 64; kind >= 2 && i > 1; i--) {
         uint64_t j = below(i), kept_entry = p.entries[i - 1];
         p.entries[i - 1] = p.entries[j];
         p.entries[j] = kept_entry;
@@ -254,34 +254,34 @@ static gudrenoss_permutation arranged(unsigned n, unsigned kind)
 
 static void permutations(void)
 {
-    for (unsigned n = 0; n <= 21; n++) {
+    for (unsigned n = 0; n <= 65; n += n < 22 ? 1 : 21) {
         for (unsigned kind = 0; kind < 6; kind++) {
             gudrenoss_permutation p = arranged(n, kind), q = arranged(n, 5 - kind);
             about("gudrenoss_permutation_image", "%u entries, kind %u", n, kind);
-            CALL(gudrenoss_permutation_image(p, n == 0 ? 0 : n - 1, &a));
+            CALL(gudrenoss_permutation_image(p.entries, p.len, n == 0 ? 0 : n - 1, &a));
             about("gudrenoss_permutation_inverse", "%u entries, kind %u", n, kind);
-            CALL(gudrenoss_permutation_inverse(p, out));
+            CALL(gudrenoss_permutation_inverse(p.entries, p.len, out, &b));
             about("gudrenoss_permutation_compose", "%u entries, kind %u", n, kind);
-            CALL(gudrenoss_permutation_compose(p, q, out));
+            CALL(gudrenoss_permutation_compose(p.entries, p.len, q.entries, q.len, out, &b));
             about("gudrenoss_permutation_sign", "%u entries, kind %u", n, kind);
-            CALL(gudrenoss_permutation_sign(p, &sign));
+            CALL(gudrenoss_permutation_sign(p.entries, p.len, &sign));
             about("gudrenoss_permutation_rank", "%u entries, kind %u", n, kind);
-            CALL(gudrenoss_permutation_rank(p, &a));
+            CALL(gudrenoss_permutation_rank(p.entries, p.len, &a));
             about("gudrenoss_permutation_successor", "%u entries, kind %u", n, kind);
-            CALL(gudrenoss_permutation_successor(p, out));
+            CALL(gudrenoss_permutation_successor(p.entries, p.len, out, &b));
             /* (n-2, .., 1, 0, n-1) and the like: the search for the first fall goes far */
-            for (unsigned i = 0; i + 1 < n && i < 20; i++) {
+            for (unsigned i = 0; i + 1 < n && i < 63; i++) {
                 p.entries[i] = i + 1 < n - 1 ? i : n - 1;
             }
-            if (n > 1 && n <= 20) {
+            if (n > 1 && n <= 64) {
                 p.entries[n - 1] = n - 2;
             }
             about("gudrenoss_permutation_successor", "%u entries, rising but for the last two", n);
-            CALL(gudrenoss_permutation_successor(p, out));
+            CALL(gudrenoss_permutation_successor(p.entries, p.len, out, &b));
             uint64_t ranks[3] = {0, below(2432902008176640000u), GREATEST};
             for (unsigned i = 0; i < 3; i++) {
                 about("gudrenoss_permutation_unrank", "%u entries, r %lu", n, ranks[i]);
-                CALL(gudrenoss_permutation_unrank(n, ranks[i], out));
+                CALL(gudrenoss_permutation_unrank(n, ranks[i], out, &b));
             }
         }
     }

@@ -60,7 +60,8 @@
  * - A buffer that is filled is a pointer and its room: uint64_t *word, size_t word_room. At least that many places must be
  *   writable there. The function writes from place 0 up, stores in *written how many places it has written, and leaves the places
  *   after those as they were. Too little room is refused 8, always as the last check.
- * - Every other pointer is to one place that may be written, entries[20] to twenty places; it is never NULL.
+ * - Every other pointer is to one place that may be written, entries[64] to 64 places; a permutation that is read is 64 places,
+ *   whatever its length. None of them is NULL.
  * - Pointers are aligned as their type asks.
  * - A place or buffer that is written must not overlap another one or a list that is read: such a call gives wrong numbers or ends
  *   the program. Two lists that are read may overlap, and a value that is passed may be that of the place of a result, as in
@@ -136,9 +137,10 @@ static inline const char *gudrenoss_refusal_text(uint64_t number)
     }
 }
 
-/* A permutation sends i to entries[i]. Entries past the length are ignored when it is passed, and zero when one is given. */
+/* A permutation sends i to entries[i]. Entries past the length are ignored when it is lent, and zero when one is given. No function
+ * takes or gives this struct: each takes the entries and the length, as p.entries and p.len, and gives them to two such places. */
 typedef struct gudrenoss_permutation {
-    uint64_t entries[20];
+    uint64_t entries[64];
     uint64_t len;
 } gudrenoss_permutation;
 
@@ -328,54 +330,61 @@ GUDRENOSS_MUST_USE gudrenoss_refusal gudrenoss_set_select(uint64_t set, uint64_t
 
 /* ---- Permutations ----------------------------------------------------------------------------------------------------------- */
 
-/* They are passed by value, twenty entries and a length. A permutation that is given comes as its twenty entries; its length is that
- * of the one that was passed, or n. In order of rank the decreasing one is first and the identity last. */
+/* A permutation p is lent as its entries, an array of 64 places whatever the length, and its length n. A permutation that is given is
+ * written to an array of 64 places, all of them, and its length to *len. Image, inverse, composition and sign take lengths up to 64;
+ * those up to 20 are numbered. In order of rank the decreasing one is first and the identity last. */
 
 /* Where p sends i.
- *   1  the length is above 20
+ *   1  n > 64
  *   10 p is no permutation
- *   7  i is not below the length
- *   *entry: p.entries[i] */
-GUDRENOSS_MUST_USE gudrenoss_refusal gudrenoss_permutation_image(gudrenoss_permutation p, uint64_t i, uint64_t *entry);
+ *   7  i is not below n
+ *   *entry: p[i] */
+GUDRENOSS_MUST_USE gudrenoss_refusal gudrenoss_permutation_image(const uint64_t p[64], uint64_t n, uint64_t i, uint64_t *entry);
 
 /* The inverse.
- *   1  the length is above 20
+ *   1  n > 64
  *   10 p is no permutation
- *   entries: the permutation that sends p.entries[i] to i, then zeros */
-GUDRENOSS_MUST_USE gudrenoss_refusal gudrenoss_permutation_inverse(gudrenoss_permutation p, uint64_t entries[20]);
+ *   entries: the permutation that sends p[i] to i, then zeros
+ *   *len: n */
+GUDRENOSS_MUST_USE gudrenoss_refusal gudrenoss_permutation_inverse(
+    const uint64_t p[64], uint64_t n, uint64_t entries[64], uint64_t *len);
 
 /* p after q.
- *   1  either length is above 20
- *   8  the lengths differ
+ *   1  n > 64 or m > 64
+ *   8  n and m differ
  *   10 either is no permutation
- *   entries: the permutation that sends i to p(q(i)), then zeros */
+ *   entries: the permutation that sends i to p(q(i)), then zeros
+ *   *len: n */
 GUDRENOSS_MUST_USE gudrenoss_refusal gudrenoss_permutation_compose(
-    gudrenoss_permutation p, gudrenoss_permutation q, uint64_t entries[20]);
+    const uint64_t p[64], uint64_t n, const uint64_t q[64], uint64_t m, uint64_t entries[64], uint64_t *len);
 
 /* The sign.
- *   1  the length is above 20
+ *   1  n > 64
  *   10 p is no permutation
  *   *minus: whether the number of inversions is odd */
-GUDRENOSS_MUST_USE gudrenoss_refusal gudrenoss_permutation_sign(gudrenoss_permutation p, bool *minus);
+GUDRENOSS_MUST_USE gudrenoss_refusal gudrenoss_permutation_sign(const uint64_t p[64], uint64_t n, bool *minus);
 
 /* The rank among the permutations of that length.
- *   1  the length is above 20
+ *   1  n > 20
  *   10 p is no permutation
  *   *rank: the rank; of (0, 2, 1) it is 3 */
-GUDRENOSS_MUST_USE gudrenoss_refusal gudrenoss_permutation_rank(gudrenoss_permutation p, uint64_t *rank);
+GUDRENOSS_MUST_USE gudrenoss_refusal gudrenoss_permutation_rank(const uint64_t p[64], uint64_t n, uint64_t *rank);
 
 /* The permutation of length n that has rank r.
  *   1  n > 20
  *   3  r is not below n!
- *   entries: the permutation, then zeros */
-GUDRENOSS_MUST_USE gudrenoss_refusal gudrenoss_permutation_unrank(uint64_t n, uint64_t r, uint64_t entries[20]);
+ *   entries: the permutation, then zeros
+ *   *len: n */
+GUDRENOSS_MUST_USE gudrenoss_refusal gudrenoss_permutation_unrank(uint64_t n, uint64_t r, uint64_t entries[64], uint64_t *len);
 
 /* The permutation of the next rank.
- *   1  the length is above 20
+ *   1  n > 20
  *   10 p is no permutation
  *   4  p is the last of its length, the identity
- *   entries: the next permutation, then zeros */
-GUDRENOSS_MUST_USE gudrenoss_refusal gudrenoss_permutation_successor(gudrenoss_permutation p, uint64_t entries[20]);
+ *   entries: the next permutation, then zeros
+ *   *len: n */
+GUDRENOSS_MUST_USE gudrenoss_refusal gudrenoss_permutation_successor(
+    const uint64_t p[64], uint64_t n, uint64_t entries[64], uint64_t *len);
 
 /* ---- Shapes ----------------------------------------------------------------------------------------------------------------- */
 

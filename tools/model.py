@@ -235,14 +235,14 @@ def select(bits, positions):
 
 # ---- permutations
 
-def permutation(*entries):
-    refuse_if(any(len(p) > 20 for p in entries), TOO_WIDE)
+def permutation(*entries, longest=64):
+    refuse_if(any(len(p) > longest for p in entries), TOO_WIDE)
     refuse_if(len({len(p) for p in entries}) > 1, SHAPE)
     refuse_if(any(sorted(p) != list(range(len(p))) for p in entries), NOT_A_PERMUTATION)
 
 
 def perm_rank(p):
-    permutation(p)
+    permutation(p, longest=20)
     return sum(factorial(j) * sum(x < p[j] for x in p[:j]) for j in range(len(p)))
 
 

@@ -39,7 +39,9 @@ static int ins, checks, failed;
 #define LIST(...) (const uint64_t[]){__VA_ARGS__}, COUNT(__VA_ARGS__)
 #define IN(...) lend(LIST(__VA_ARGS__)), COUNT(__VA_ARGS__)
 #define EMPTY lent.in[0].place, 0
-#define P(...) permutation(LIST(__VA_ARGS__))
+#define P(...) permutation(LIST(__VA_ARGS__)), COUNT(__VA_ARGS__)
+#define RISING(len) rising_entries(), len
+#define ENTRIES lent.out.place, X
 
 static const uint64_t top = UINT64_MAX, high_bit = (uint64_t)1 << 63, big = (uint64_t)1 << 40;
 
@@ -181,13 +183,13 @@ static void looks_list(int line, gudrenoss_refusal back, const uint64_t *list, s
     looks_number(line, back, len);
 }
 
-/* The twenty entries of a permutation: those listed, then zeros. */
+/* All entries of a permutation, those listed and then zeros, and its length. */
 static void looks_entries(int line, gudrenoss_refusal back, const uint64_t *list, size_t len)
 {
-    const uint64_t zeros[20] = {0};
-    put(zeros, 20);
+    const uint64_t zeros[64] = {0};
+    put(zeros, 64);
     put(list, len);
-    look(line, back, GUDRENOSS_OK, 0);
+    looks_number(line, back, len);
 }
 
 #define refused(back, number) looks_refused(__LINE__, back, GUDRENOSS_##number)
@@ -202,23 +204,22 @@ static void looks_entries(int line, gudrenoss_refusal back, const uint64_t *list
 #define entries(back, ...) looks_entries(__LINE__, back, LIST(__VA_ARGS__))
 #define no_entries(back) looks_entries(__LINE__, back, NULL, 0)
 
-/* A permutation with anything past its length. */
-static gudrenoss_permutation permutation(const uint64_t *list, size_t len)
+/* Copies the entries of a permutation to the next place of lists that are read, with anything past its length. */
+static const uint64_t *permutation(const uint64_t *list, size_t len)
 {
-    gudrenoss_permutation p;
-    for (size_t i = 0; i < 20; i++)
-        p.entries[i] = i < len ? list[i] : 1000 + i;
-    p.len = len;
-    return p;
+    uint64_t all[64];
+    for (size_t i = 0; i < 64; i++)
+        all[i] = i < len ? list[i] : 1000 + i;
+    return lend(all, 64);
 }
 
-static gudrenoss_permutation identity(uint64_t len)
+/* The entries 0, 1, 2, .. 63. */
+static const uint64_t *rising_entries(void)
 {
-    gudrenoss_permutation p;
-    for (size_t i = 0; i < 20; i++)
-        p.entries[i] = i;
-    p.len = len;
-    return p;
+    uint64_t all[64];
+    for (size_t i = 0; i < 64; i++)
+        all[i] = i;
+    return lend(all, 64);
 }
 
 /* 0, 1, 2, .. or the same number again and again, as many as there is place for. */
@@ -655,59 +656,85 @@ static void test_sets(void)
 
 /* ---- Permutations ----------------------------------------------------------------------------------------------------------- */
 
+/* 63, 62, .. 0 has 2016 inversions, and is its own inverse. */
+static void test_longest_permutations(void)
+{
+    uint64_t falling[64], rises[64];
+    for (size_t i = 0; i < 64; i++) {
+        falling[i] = 63 - i;
+        rises[i] = i;
+    }
+    number(gudrenoss_permutation_image(lend(falling, 64), 64, 63, X), 0);
+    refused(gudrenoss_permutation_image(lend(falling, 64), 64, 64, X), OUTSIDE);
+    flag(gudrenoss_permutation_sign(lend(falling, 64), 64, FLAG), plus);
+    looks_entries(__LINE__, gudrenoss_permutation_inverse(lend(falling, 64), 64, ENTRIES), falling, 64);
+    looks_entries(__LINE__, gudrenoss_permutation_compose(lend(falling, 64), 64, lend(falling, 64), 64, ENTRIES), rises, 64);
+    falling[63] = 1;
+    refused(gudrenoss_permutation_sign(lend(falling, 64), 64, FLAG), NOT_A_PERMUTATION);
+    falling[63] = 64;
+    refused(gudrenoss_permutation_inverse(lend(falling, 64), 64, ENTRIES), NOT_A_PERMUTATION);
+}
+
 static void test_permutations(void)
 {
     number(gudrenoss_permutation_image(P(2, 0, 1), 0, X), 2);
-    number(gudrenoss_permutation_image(identity(20), 19, X), 19);
-    refused(gudrenoss_permutation_image(identity(21), 0, X), TOO_WIDE);
+    number(gudrenoss_permutation_image(RISING(20), 19, X), 19);
+    number(gudrenoss_permutation_image(RISING(64), 63, X), 63);
+    refused(gudrenoss_permutation_image(RISING(65), 0, X), TOO_WIDE);
     refused(gudrenoss_permutation_image(P(0, 0), 5, X), NOT_A_PERMUTATION);
     refused(gudrenoss_permutation_image(P(0, 1), 2, X), OUTSIDE);
-    refused(gudrenoss_permutation_image(identity(0), 0, X), OUTSIDE);
+    refused(gudrenoss_permutation_image(RISING(0), 0, X), OUTSIDE);
 
-    entries(gudrenoss_permutation_inverse(P(2, 0, 1), lent.out.place), 1, 2, 0);
-    no_entries(gudrenoss_permutation_inverse(identity(0), lent.out.place));
-    refused(gudrenoss_permutation_inverse(identity(top), lent.out.place), TOO_WIDE);
-    refused(gudrenoss_permutation_inverse(P(0, 2), lent.out.place), NOT_A_PERMUTATION);
+    entries(gudrenoss_permutation_inverse(P(2, 0, 1), ENTRIES), 1, 2, 0);
+    no_entries(gudrenoss_permutation_inverse(RISING(0), ENTRIES));
+    refused(gudrenoss_permutation_inverse(RISING(top), ENTRIES), TOO_WIDE);
+    refused(gudrenoss_permutation_inverse(P(0, 2), ENTRIES), NOT_A_PERMUTATION);
+    test_longest_permutations();
 
-    entries(gudrenoss_permutation_compose(P(1, 0, 2), P(2, 0, 1), lent.out.place), 2, 1, 0);
-    entries(gudrenoss_permutation_compose(P(2, 0, 1), P(1, 0, 2), lent.out.place), 0, 2, 1);
-    no_entries(gudrenoss_permutation_compose(identity(0), identity(0), lent.out.place));
-    refused(gudrenoss_permutation_compose(P(0, 0), identity(21), lent.out.place), TOO_WIDE);
-    refused(gudrenoss_permutation_compose(identity(21), identity(21), lent.out.place), TOO_WIDE);
-    refused(gudrenoss_permutation_compose(P(0, 0), P(0), lent.out.place), SHAPE);
-    refused(gudrenoss_permutation_compose(P(0, 1), P(0, 0), lent.out.place), NOT_A_PERMUTATION);
-    refused(gudrenoss_permutation_compose(P(1, 1), P(0, 1), lent.out.place), NOT_A_PERMUTATION);
+    entries(gudrenoss_permutation_compose(P(1, 0, 2), P(2, 0, 1), ENTRIES), 2, 1, 0);
+    entries(gudrenoss_permutation_compose(P(2, 0, 1), P(1, 0, 2), ENTRIES), 0, 2, 1);
+    no_entries(gudrenoss_permutation_compose(RISING(0), RISING(0), ENTRIES));
+    refused(gudrenoss_permutation_compose(P(0, 0), RISING(65), ENTRIES), TOO_WIDE);
+    refused(gudrenoss_permutation_compose(RISING(65), RISING(64), ENTRIES), TOO_WIDE);
+    refused(gudrenoss_permutation_compose(RISING(64), RISING(65), ENTRIES), TOO_WIDE);
+    refused(gudrenoss_permutation_compose(RISING(64), RISING(63), ENTRIES), SHAPE);
+    refused(gudrenoss_permutation_compose(P(0, 0), P(0), ENTRIES), SHAPE);
+    refused(gudrenoss_permutation_compose(P(0, 1), P(0, 0), ENTRIES), NOT_A_PERMUTATION);
+    refused(gudrenoss_permutation_compose(P(1, 1), P(0, 1), ENTRIES), NOT_A_PERMUTATION);
 
     flag(gudrenoss_permutation_sign(P(1, 0, 2), FLAG), minus);
     flag(gudrenoss_permutation_sign(P(1, 2, 0), FLAG), plus);
-    flag(gudrenoss_permutation_sign(identity(0), FLAG), plus);
-    refused(gudrenoss_permutation_sign(identity(21), FLAG), TOO_WIDE);
+    flag(gudrenoss_permutation_sign(RISING(0), FLAG), plus);
+    flag(gudrenoss_permutation_sign(RISING(64), FLAG), plus);
+    refused(gudrenoss_permutation_sign(RISING(65), FLAG), TOO_WIDE);
     refused(gudrenoss_permutation_sign(P(3, 0, 1), FLAG), NOT_A_PERMUTATION);
 
     number(gudrenoss_permutation_rank(P(2, 1, 0), X), 0);
     number(gudrenoss_permutation_rank(P(0, 2, 1), X), 3);
     number(gudrenoss_permutation_rank(P(0, 1, 2), X), 5);
-    number(gudrenoss_permutation_rank(identity(0), X), 0);
-    number(gudrenoss_permutation_rank(identity(20), X), 2432902008176639999u);
-    refused(gudrenoss_permutation_rank(identity(21), X), TOO_WIDE);
+    number(gudrenoss_permutation_rank(RISING(0), X), 0);
+    number(gudrenoss_permutation_rank(RISING(20), X), 2432902008176639999u);
+    refused(gudrenoss_permutation_rank(RISING(21), X), TOO_WIDE);
+    refused(gudrenoss_permutation_rank(RISING(64), X), TOO_WIDE);
     refused(gudrenoss_permutation_rank(P(1), X), NOT_A_PERMUTATION);
 
-    entries(gudrenoss_permutation_unrank(3, 3, lent.out.place), 0, 2, 1);
-    no_entries(gudrenoss_permutation_unrank(0, 0, lent.out.place));
-    entries(gudrenoss_permutation_unrank(20, 2432902008176639999u, lent.out.place), 0, 1, 2, 3, 4, 5, 6, 7, 8, 9, 10, 11, 12, 13, 14,
+    entries(gudrenoss_permutation_unrank(3, 3, ENTRIES), 0, 2, 1);
+    no_entries(gudrenoss_permutation_unrank(0, 0, ENTRIES));
+    entries(gudrenoss_permutation_unrank(20, 2432902008176639999u, ENTRIES), 0, 1, 2, 3, 4, 5, 6, 7, 8, 9, 10, 11, 12, 13, 14,
         15, 16, 17, 18, 19);
-    refused(gudrenoss_permutation_unrank(21, 0, lent.out.place), TOO_WIDE);
-    refused(gudrenoss_permutation_unrank(3, 6, lent.out.place), NO_SUCH_RANK);
-    refused(gudrenoss_permutation_unrank(0, 1, lent.out.place), NO_SUCH_RANK);
-    refused(gudrenoss_permutation_unrank(20, 2432902008176640000u, lent.out.place), NO_SUCH_RANK);
+    refused(gudrenoss_permutation_unrank(21, 0, ENTRIES), TOO_WIDE);
+    refused(gudrenoss_permutation_unrank(3, 6, ENTRIES), NO_SUCH_RANK);
+    refused(gudrenoss_permutation_unrank(0, 1, ENTRIES), NO_SUCH_RANK);
+    refused(gudrenoss_permutation_unrank(20, 2432902008176640000u, ENTRIES), NO_SUCH_RANK);
 
-    entries(gudrenoss_permutation_successor(P(2, 1, 0), lent.out.place), 1, 2, 0);
-    entries(gudrenoss_permutation_successor(P(0, 2, 1), lent.out.place), 1, 0, 2);
-    refused(gudrenoss_permutation_successor(P(0, 1, 2), lent.out.place), LAST);
-    refused(gudrenoss_permutation_successor(identity(0), lent.out.place), LAST);
-    refused(gudrenoss_permutation_successor(identity(1), lent.out.place), LAST);
-    refused(gudrenoss_permutation_successor(identity(21), lent.out.place), TOO_WIDE);
-    refused(gudrenoss_permutation_successor(P(1, 1), lent.out.place), NOT_A_PERMUTATION);
+    entries(gudrenoss_permutation_successor(P(2, 1, 0), ENTRIES), 1, 2, 0);
+    entries(gudrenoss_permutation_successor(P(0, 2, 1), ENTRIES), 1, 0, 2);
+    refused(gudrenoss_permutation_successor(P(0, 1, 2), ENTRIES), LAST);
+    refused(gudrenoss_permutation_successor(RISING(0), ENTRIES), LAST);
+    refused(gudrenoss_permutation_successor(RISING(1), ENTRIES), LAST);
+    refused(gudrenoss_permutation_successor(RISING(21), ENTRIES), TOO_WIDE);
+    refused(gudrenoss_permutation_successor(RISING(64), ENTRIES), TOO_WIDE);
+    refused(gudrenoss_permutation_successor(P(1, 1), ENTRIES), NOT_A_PERMUTATION);
 }
 
 /* ---- Shapes ----------------------------------------------------------------------------------------------------------------- */

@@ -237,22 +237,22 @@ static void shuffle(uint64_t *places, size_t len)
 static gudrenoss_permutation permutation(uint64_t len)
 {
     gudrenoss_permutation p;
-    for (size_t i = 0; i < 20; i++)
-        p.entries[i] = i < len ? i : number(20);
+    for (size_t i = 0; i < 64; i++)
+        p.entries[i] = i < len ? i : number(64);
     p.len = len;
-    if (len <= 20 && below(16) != 0)
+    if (len <= 64 && below(16) != 0)
         shuffle(p.entries, len);
-    if (len <= 20 && len > 1 && below(8) == 0)
+    if (len <= 64 && len > 1 && below(8) == 0)
         for (size_t i = 0; i < len; i++)
             p.entries[i] = len - 1 - i;
     if (len > 0 && below(8) == 0)
-        p.entries[below(len < 20 ? len : 20)] = number(20);
+        p.entries[below(len < 64 ? len : 64)] = number(64);
     return p;
 }
 
 static uint64_t permutation_len(void)
 {
-    return below(32) == 0 ? number(20) : below(2) ? below(6) : below(22);
+    return below(32) == 0 ? number(64) : below(2) ? below(6) : below(2) ? below(22) : below(66);
 }
 
 /* A shape: mostly small radices, sometimes a zero or a large one. */
@@ -546,27 +546,29 @@ static struct outcome call_set_select(void)
 static struct outcome call_permutation_image(void)
 {
     gudrenoss_permutation p = permutation(permutation_len());
-    uint64_t i = number(20);
+    uint64_t i = number(64);
     fresh(0);
     ready();
-    return (struct outcome){gudrenoss_permutation_image(p, i, &value[0].value), model_permutation_image(&p, i)};
+    return (struct outcome){gudrenoss_permutation_image(p.entries, p.len, i, &value[0].value), model_permutation_image(&p, i)};
 }
 
 static struct outcome call_permutation_inverse(void)
 {
     gudrenoss_permutation p = permutation(permutation_len());
-    fresh(20);
+    fresh(64);
     ready();
-    return (struct outcome){gudrenoss_permutation_inverse(p, at(&out)), model_permutation_inverse(&p)};
+    return (struct outcome){gudrenoss_permutation_inverse(p.entries, p.len, at(&out), &value[0].value), model_permutation_inverse(&p)};
 }
 
 static struct outcome call_permutation_compose(void)
 {
     uint64_t len = permutation_len();
     gudrenoss_permutation p = permutation(len), q = permutation(below(16) == 0 ? permutation_len() : len);
-    fresh(20);
+    fresh(64);
     ready();
-    return (struct outcome){gudrenoss_permutation_compose(p, q, at(&out)), model_permutation_compose(&p, &q)};
+    return (struct outcome){
+        gudrenoss_permutation_compose(p.entries, p.len, q.entries, q.len, at(&out), &value[0].value),
+        model_permutation_compose(&p, &q)};
 }
 
 static struct outcome call_permutation_sign(void)
@@ -574,7 +576,7 @@ static struct outcome call_permutation_sign(void)
     gudrenoss_permutation p = permutation(permutation_len());
     fresh(0);
     ready();
-    return (struct outcome){gudrenoss_permutation_sign(p, &flag.value), model_permutation_sign(&p)};
+    return (struct outcome){gudrenoss_permutation_sign(p.entries, p.len, &flag.value), model_permutation_sign(&p)};
 }
 
 static struct outcome call_permutation_rank(void)
@@ -582,7 +584,7 @@ static struct outcome call_permutation_rank(void)
     gudrenoss_permutation p = permutation(permutation_len());
     fresh(0);
     ready();
-    return (struct outcome){gudrenoss_permutation_rank(p, &value[0].value), model_permutation_rank(&p)};
+    return (struct outcome){gudrenoss_permutation_rank(p.entries, p.len, &value[0].value), model_permutation_rank(&p)};
 }
 
 static struct outcome call_permutation_unrank(void)
@@ -591,17 +593,18 @@ static struct outcome call_permutation_unrank(void)
     if (n <= 20)
         for (uint64_t i = n; i < 20 && below(8) != 0; i++)
             r /= i + 1;
-    fresh(20);
+    fresh(64);
     ready();
-    return (struct outcome){gudrenoss_permutation_unrank(n, r, at(&out)), model_permutation_unrank(n, r)};
+    return (struct outcome){gudrenoss_permutation_unrank(n, r, at(&out), &value[0].value), model_permutation_unrank(n, r)};
 }
 
 static struct outcome call_permutation_successor(void)
 {
     gudrenoss_permutation p = permutation(permutation_len());
-    fresh(20);
+    fresh(64);
     ready();
-    return (struct outcome){gudrenoss_permutation_successor(p, at(&out)), model_permutation_successor(&p)};
+    return (struct outcome){
+        gudrenoss_permutation_successor(p.entries, p.len, at(&out), &value[0].value), model_permutation_successor(&p)};
 }
 
 static struct outcome call_shape_count(void)

@@ -333,7 +333,11 @@ fn allowed_pair(g: &mut Random) -> (u64, u64) {
 }
 
 fn permutation_length(g: &mut Random) -> u64 {
-    if g.one_in(3) { g.between(18, 22) } else { g.between(0, 20) }
+    match g.below(6) {
+        0 | 1 => g.between(18, 22),
+        2 => g.between(21, 66),
+        _ => g.between(0, 20),
+    }
 }
 
 fn permutation(g: &mut Random, n: u64) -> Vec<u64> {

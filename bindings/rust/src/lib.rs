@@ -9,7 +9,7 @@
 //! | [`Repetition`] | the two families of words: subsets and multisets; counting, ranking and unranking of words |
 //! | [`MonoIndex`], [`MonoIndices`] | a word of a family over its alphabet, as 64 bits; a walk through all words of a degree |
 //! | [`Combination`] | a set of symbols below 64 |
-//! | [`Permutation`] | a permutation of up to twenty entries |
+//! | [`Permutation`] | a permutation of up to 64 entries |
 //! | [`Radix`], [`Word`] | shapes, and words of digits over one radix |
 //! | [`Composition`] | a list of exponents |
 //!

@@ -1,11 +1,13 @@
 use crate::symbols::listed;
+use crate::sys::CAPACITY;
 use crate::{sys, Refusal, Sign};
 use core::fmt;
 use core::hash::{Hash, Hasher};
 
-/// A permutation of at most twenty entries: it sends `i` to entry `i`. In order of rank the decreasing one is first and the identity
-/// last. Every call judges the entries that it is given: [`TooWide`](Refusal::TooWide) if there are more than twenty, and
-/// [`NotAPermutation`](Refusal::NotAPermutation) if they are no bijection.
+/// A permutation of at most 64 entries: it sends `i` to entry `i`. Those of at most twenty are numbered: in order of rank the
+/// decreasing one is first and the identity last. Every call judges the entries that it is given: [`TooWide`](Refusal::TooWide) if
+/// there are more than 64, or more than twenty where a rank is asked for, and [`NotAPermutation`](Refusal::NotAPermutation) if they
+/// are no bijection.
 ///
 /// ```
 /// use gudrenoss::{Permutation, Refusal};
@@ -20,9 +22,9 @@ use core::hash::{Hash, Hasher};
 pub struct Permutation(sys::Record);
 
 impl Permutation {
-    /// The permutation with these entries. They are not judged here; of more than twenty only the number is kept.
+    /// The permutation with these entries. They are not judged here; of more than 64 only the number is kept.
     pub fn new(entries: &[u64]) -> Self {
-        let mut kept = [0; 20];
+        let mut kept = [0; CAPACITY];
         kept.iter_mut().zip(entries).for_each(|(place, &entry)| *place = entry);
         Permutation(sys::Record {
             entries: kept,
@@ -46,7 +48,7 @@ impl Permutation {
     ///
     /// [`TooWide`](Refusal::TooWide), [`NoSuchRank`](Refusal::NoSuchRank).
     pub fn from_rank(n: u64, rank: u64) -> Result<Self, Refusal> {
-        Self::given(n, |entries| sys::gudrenoss_permutation_unrank(n, rank, entries))
+        Self::given(|entries, len| sys::gudrenoss_permutation_unrank(n, rank, entries, len))
     }
 
     /// The number of entries.
@@ -61,10 +63,10 @@ impl Permutation {
         self.0.len == 0
     }
 
-    /// The entries, at most twenty.
+    /// The entries, at most 64.
     #[must_use]
     pub fn parts(&self) -> &[u64] {
-        &self.0.entries[..self.0.len.min(20) as usize]
+        &self.0.entries[..self.0.len.min(CAPACITY as u64) as usize]
     }
 
     /// Where it sends `i`.
@@ -73,7 +75,7 @@ impl Permutation {
     ///
     /// [`TooWide`](Refusal::TooWide), [`NotAPermutation`](Refusal::NotAPermutation), [`Outside`](Refusal::Outside).
     pub fn apply(&self, i: u64) -> Result<u64, Refusal> {
-        sys::number(|entry| sys::gudrenoss_permutation_image(self.0, i, entry))
+        sys::number(|entry| sys::gudrenoss_permutation_image(&self.0.entries, self.0.len, i, entry))
     }
 
     /// The inverse.
@@ -82,7 +84,7 @@ impl Permutation {
     ///
     /// [`TooWide`](Refusal::TooWide), [`NotAPermutation`](Refusal::NotAPermutation).
     pub fn inverse(&self) -> Result<Self, Refusal> {
-        Self::given(self.0.len, |entries| sys::gudrenoss_permutation_inverse(self.0, entries))
+        Self::given(|entries, len| sys::gudrenoss_permutation_inverse(&self.0.entries, self.0.len, entries, len))
     }
 
     /// This one after the other: it sends `i` to `self(other(i))`.
@@ -91,9 +93,8 @@ impl Permutation {
     ///
     /// [`TooWide`](Refusal::TooWide), [`Shape`](Refusal::Shape), [`NotAPermutation`](Refusal::NotAPermutation).
     pub fn compose(&self, other: &Self) -> Result<Self, Refusal> {
-        Self::given(self.0.len, |entries| {
-            sys::gudrenoss_permutation_compose(self.0, other.0, entries)
-        })
+        let (p, q) = (&self.0, &other.0);
+        Self::given(|entries, len| sys::gudrenoss_permutation_compose(&p.entries, p.len, &q.entries, q.len, entries, len))
     }
 
     /// The sign of the number of inversions.
@@ -103,7 +104,7 @@ impl Permutation {
     /// [`TooWide`](Refusal::TooWide), [`NotAPermutation`](Refusal::NotAPermutation).
     pub fn sign(&self) -> Result<Sign, Refusal> {
         let mut minus = false;
-        Refusal::judge(sys::gudrenoss_permutation_sign(self.0, &mut minus))?;
+        Refusal::judge(sys::gudrenoss_permutation_sign(&self.0.entries, self.0.len, &mut minus))?;
         Ok(Sign::from_minus(minus))
     }
 
@@ -113,7 +114,7 @@ impl Permutation {
     ///
     /// [`TooWide`](Refusal::TooWide), [`NotAPermutation`](Refusal::NotAPermutation).
     pub fn rank(&self) -> Result<u64, Refusal> {
-        sys::number(|rank| sys::gudrenoss_permutation_rank(self.0, rank))
+        sys::number(|rank| sys::gudrenoss_permutation_rank(&self.0.entries, self.0.len, rank))
     }
 
     /// The permutation of the next rank.
@@ -122,13 +123,16 @@ impl Permutation {
     ///
     /// [`TooWide`](Refusal::TooWide), [`NotAPermutation`](Refusal::NotAPermutation), [`Last`](Refusal::Last).
     pub fn successor(&self) -> Result<Self, Refusal> {
-        Self::given(self.0.len, |entries| sys::gudrenoss_permutation_successor(self.0, entries))
+        Self::given(|entries, len| sys::gudrenoss_permutation_successor(&self.0.entries, self.0.len, entries, len))
     }
 
-    fn given(len: u64, call: impl FnOnce(&mut [u64; 20]) -> sys::Status) -> Result<Self, Refusal> {
-        let mut entries = [0; 20];
-        Refusal::judge(call(&mut entries))?;
-        Ok(Permutation(sys::Record { entries, len }))
+    fn given(call: impl FnOnce(&mut [u64; CAPACITY], &mut u64) -> sys::Status) -> Result<Self, Refusal> {
+        let mut record = sys::Record {
+            entries: [0; CAPACITY],
+            len: 0,
+        };
+        Refusal::judge(call(&mut record.entries, &mut record.len))?;
+        Ok(Permutation(record))
     }
 }
 

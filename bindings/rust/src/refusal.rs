@@ -5,7 +5,7 @@ use core::fmt;
 #[derive(Debug, Clone, Copy, PartialEq, Eq, Hash)]
 pub enum Refusal {
     /// A limit on width is passed: more than 64 symbols, a shifted alphabet above 64, a shifted symbol above 63, a permutation
-    /// longer than 20, more than 16 axes, more than 64 digits or exponents.
+    /// longer than 64, or than 20 where it is numbered, more than 16 axes, more than 64 digits or exponents.
     TooWide,
     /// A word breaks its family's rule.
     NotMonotone {

@@ -7,6 +7,9 @@
 
 use crate::Refusal;
 
+/// How many entries the record of a permutation has, and so its greatest length.
+pub const CAPACITY: usize = 64;
+
 /// What every function gives back, as C has it: the number of a refusal, 0 for an answer, and the place that it tells.
 #[repr(C)]
 #[derive(Clone, Copy)]
@@ -16,11 +19,11 @@ pub struct Status {
     pub at: u64,
 }
 
-/// The record of a permutation, as C has it.
+/// The record of a permutation, as C has it. It is lent, and given, as its entries and its length.
 #[repr(C)]
 #[derive(Clone, Copy)]
 pub struct Record {
-    pub entries: [u64; 20],
+    pub entries: [u64; CAPACITY],
     pub len: u64,
 }
 
@@ -90,13 +93,30 @@ unsafe extern "C" {
     pub safe fn gudrenoss_set_position(set: u64, s: u64, position: &mut u64) -> Status;
     pub safe fn gudrenoss_set_select(set: u64, positions: u64, selected: &mut u64) -> Status;
 
-    pub safe fn gudrenoss_permutation_image(p: Record, i: u64, entry: &mut u64) -> Status;
-    pub safe fn gudrenoss_permutation_inverse(p: Record, entries: &mut [u64; 20]) -> Status;
-    pub safe fn gudrenoss_permutation_compose(p: Record, q: Record, entries: &mut [u64; 20]) -> Status;
-    pub safe fn gudrenoss_permutation_sign(p: Record, minus: &mut bool) -> Status;
-    pub safe fn gudrenoss_permutation_rank(p: Record, rank: &mut u64) -> Status;
-    pub safe fn gudrenoss_permutation_unrank(n: u64, r: u64, entries: &mut [u64; 20]) -> Status;
-    pub safe fn gudrenoss_permutation_successor(p: Record, entries: &mut [u64; 20]) -> Status;
+    pub safe fn gudrenoss_permutation_image(p: &[u64; CAPACITY], n: u64, i: u64, entry: &mut u64) -> Status;
+    pub safe fn gudrenoss_permutation_inverse(
+        p: &[u64; CAPACITY],
+        n: u64,
+        entries: &mut [u64; CAPACITY],
+        len: &mut u64,
+    ) -> Status;
+    pub safe fn gudrenoss_permutation_compose(
+        p: &[u64; CAPACITY],
+        n: u64,
+        q: &[u64; CAPACITY],
+        m: u64,
+        entries: &mut [u64; CAPACITY],
+        len: &mut u64,
+    ) -> Status;
+    pub safe fn gudrenoss_permutation_sign(p: &[u64; CAPACITY], n: u64, minus: &mut bool) -> Status;
+    pub safe fn gudrenoss_permutation_rank(p: &[u64; CAPACITY], n: u64, rank: &mut u64) -> Status;
+    pub safe fn gudrenoss_permutation_unrank(n: u64, r: u64, entries: &mut [u64; CAPACITY], len: &mut u64) -> Status;
+    pub safe fn gudrenoss_permutation_successor(
+        p: &[u64; CAPACITY],
+        n: u64,
+        entries: &mut [u64; CAPACITY],
+        len: &mut u64,
+    ) -> Status;
 
     pub safe fn gudrenoss_digits_count(radix: u64, degree: u64, count: &mut u64) -> Status;
     pub safe fn gudrenoss_digits_symbol(radix: u64, degree: u64, rank: u64, p: u64, symbol: &mut u64) -> Status;

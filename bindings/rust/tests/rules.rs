@@ -217,7 +217,7 @@ fn members_and_texts() {
 #[test]
 fn permutations() {
     let p = Permutation::new(&[2, 0, 1]);
-    let wide = Permutation::new(&[0; 21]);
+    let wide = Permutation::new(&[0; 65]);
     let bad = Permutation::new(&[0, 0, 1]);
     assert_eq!(p.apply(0), Ok(2));
     assert_eq!(p.apply(3), Err(Refusal::Outside));
@@ -232,9 +232,9 @@ fn permutations() {
     assert_eq!(Permutation::new(&[0, 2, 1]).successor(), Ok(Permutation::new(&[1, 0, 2])));
     assert_eq!(Permutation::new(&[0, 1, 2]).successor(), Err(Refusal::Last));
     assert_eq!(Permutation::new(&[]).rank(), Ok(0));
-    assert!(Permutation::new(&[]).is_empty() && wide.len() == 21 && wide.parts().len() == 20);
+    assert!(Permutation::new(&[]).is_empty() && wide.len() == 65 && wide.parts().len() == 64);
     assert_eq!(Permutation::new_checked(&[1, 0]), Ok(Permutation::new(&[1, 0])));
-    assert_eq!(Permutation::new_checked(&[0; 21]), Err(Refusal::TooWide));
+    assert_eq!(Permutation::new_checked(&[0; 65]), Err(Refusal::TooWide));
     assert_eq!(Permutation::new_checked(&[0, 0, 1]), Err(Refusal::NotAPermutation));
     for (q, refusal) in [(wide, Refusal::TooWide), (bad, Refusal::NotAPermutation)] {
         assert_eq!(q.apply(9), Err(refusal));
@@ -243,6 +243,24 @@ fn permutations() {
         assert_eq!(q.sign(), Err(refusal));
         assert_eq!(q.rank(), Err(refusal));
         assert_eq!(q.successor(), Err(refusal));
+    }
+}
+
+#[test]
+fn permutations_of_64() {
+    let falling: Vec<u64> = (0..64).rev().collect();
+    let rising: Vec<u64> = (0..64).collect();
+    let p = Permutation::new_checked(&falling).unwrap();
+    assert_eq!(p.sign(), Ok(Sign::Plus));
+    assert_eq!(p.inverse(), Ok(p));
+    assert_eq!(p.compose(&p), Ok(Permutation::new(&rising)));
+    assert_eq!(p.apply(63), Ok(0));
+    assert_eq!(p.apply(64), Err(Refusal::Outside));
+    for length in [21, 64] {
+        let q = Permutation::new(&rising[..length]);
+        assert_eq!(q.rank(), Err(Refusal::TooWide));
+        assert_eq!(q.successor(), Err(Refusal::TooWide));
+        assert_eq!(q.sign(), Ok(Sign::Plus));
     }
 }
 

@@ -27,7 +27,7 @@ use Rattle.permutation.specs.declared.Verdict.the-variants as verdict
 use Rattle.permutation.specs.declared.Arranged.{Arranged}
 
 abbrev pub capacity : ℕ
-capacity = 20
+capacity = 64
 
 abbrev pub wordOf : Permutation → List ℕ
 wordOf p = take (p .len) (p .entries)

@@ -1,6 +1,8 @@
-// Permutations of up to twenty entries: image, inverse, composition and sign (document 01, "Permutations"). Rank and order are `permutation_order`'s.
+// Permutations of up to 64 entries: image, inverse, composition and sign (document 01, "Permutations"; document 02, section 7). Rank and order, which end at
+// twenty entries, are `permutation_order`'s.
 ghost use mathlib.Core.Path.{_≡_};
 ghost use Prim.Native.Nat.{_≤_};
+ghost use lib.ListN.{length, take};
 ghost use lib.Seq.{slice};
 ghost use Rattle.words.specs.Inversions.{smallerIn, inversions as inversionsOf};
 ghost use Rattle.answers.specs.Says.{answerSays};
@@ -12,7 +14,7 @@ use answers::Refusal;
 use answers::Sign;
 
 // How many entries a record holds, and so the greatest length.
-pub const CAPACITY: usize = 20;
+pub const CAPACITY: usize = 64;
 
 // A permutation of len entries: the image of place i is entries[i]. What stands past the length is ignored when taken, and zero when given.
 #[repr(C)]
@@ -39,16 +41,15 @@ pub struct Arranged {
     pub value: Permutation,
 }
 
-// Whether the first len entries are a bijection of 0 .. len-1. It is judged here and nowhere else.
-fn is_permutation(p: Permutation) -> bool
-    requires { ⌜ p .len ≤ capacity ⌝ }
-    ensures { λ r. ⌜ r ≡ isPermutation (wordOf p) ⌝ }
+// Whether the first n entries are a bijection of 0 .. n-1. It is judged here and nowhere else.
+fn is_permutation(entries: &[u64; CAPACITY], n: u64) -> bool
+    requires { ⌜ (n ≤ capacity) × (length (now entries) ≡ capacity) ⌝ }
+    ensures { λ r. ⌜ r ≡ isPermutation (take n (now (entries .entry))) ⌝ }
 {
-    let n = p.len;
     let mut seen = [false; CAPACITY];
     let mut i = 0u64;
     while i < n {
-        let x = p.entries[i as usize];
+        let x = entries[i as usize];
         if x >= n {
             return false;
         }
@@ -93,7 +94,8 @@ pub fn checked(p: Permutation) -> Verdict
     if n > CAPACITY as u64 {
         return Verdict::Refused(Refusal::TooWide);
     }
-    if is_permutation(p) {
+    let entries = p.entries;
+    if is_permutation(&entries, n) {
         return Verdict::Given;
     }
     Verdict::Refused(Refusal::NotAPermutation)
@@ -178,19 +180,21 @@ pub fn compose(p: Permutation, q: Permutation) -> Arranged
     if n != m {
         return refused(Refusal::Shape);
     }
-    if !is_permutation(p) {
+    let left = p.entries;
+    if !is_permutation(&left, n) {
         return refused(Refusal::NotAPermutation);
     }
-    if !is_permutation(q) {
+    let right = q.entries;
+    if !is_permutation(&right, m) {
         return refused(Refusal::NotAPermutation);
     }
     given(composed(p, q))
 }
 
 // How many entries from place `from` up to place `to` are smaller than x.
-pub fn smaller(entries: [u64; CAPACITY], from: u64, to: u64, x: u64) -> u64
-    requires { ⌜ (from ≤ to) × (to ≤ capacity) ⌝ }
-    ensures { λ r. ⌜ r ≡ smallerIn x (slice from to entries) ⌝ }
+pub fn smaller(entries: &[u64; CAPACITY], from: u64, to: u64, x: u64) -> u64
+    requires { ⌜ (from ≤ to) × (to ≤ capacity) × (length (now entries) ≡ capacity) ⌝ }
+    ensures { λ r. ⌜ r ≡ smallerIn x (slice from to (now (entries .entry))) ⌝ }
 {
     let mut count = 0u64;
     let mut i = from;
@@ -214,7 +218,7 @@ fn inversions(p: Permutation) -> u64
     let mut i = 0u64;
     while i < n {
         let x = entries[i as usize];
-        sum += smaller(entries, i + 1, n, x);
+        sum += smaller(&entries, i + 1, n, x);
         i += 1;
     }
     sum

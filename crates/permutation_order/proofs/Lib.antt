@@ -1,3 +1,4 @@
+pub mod Numbering
 pub mod Weighing
 pub mod Making
 pub mod Searching

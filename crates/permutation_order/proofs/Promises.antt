@@ -2,6 +2,7 @@
 --   rank-exactly    which records are ranked, and to what
 --   rank-tells-how-many-earlier    the rank is how many permutations of that length are earlier in colex order
 --   rank-ignores-the-past    it does not depend on what the record holds past its length
+--   unnumbered-exactly    1 exactly if the length is above those that are numbered
 --   unrank-exactly    unranking gives exactly the permutation of that length and rank
 --   no-such-rank-exactly    3 exactly if the rank is not below n!, which is how many permutations there are
 --   rank-of-unranked, unrank-of-ranked    unranking inverts ranking both ways
@@ -17,7 +18,7 @@ use mathlib.Core.List.{List}
 use Prim.Native.Nat.{ℕ, suc, _≤_, _<_}
 use native.Mathlib.Decide.{decLe}
 use native.Mathlib.Omega.{arith}
-use borrow.Author.Tests.{ltb-false, le-ltb, leb-true, leb-false, le-leb, lt-leb}
+use borrow.Author.Tests.{ltb-true, ltb-false, lt-ltb, le-ltb, leb-true, leb-false, le-leb, lt-leb}
 use lib.Dec.{leb}
 use lib.ListN.{take}
 use Rattle.words.specs.Colex.{ColexLt}
@@ -34,62 +35,71 @@ use Rattle.answers.specs.Says.{Says, refuses, gives, refusedIf, andThen}
 use Rattle.answers.proofs.Says.{gives-same, refuses-same, gives-no-refusal, passed, then-gave}
 use Rattle.permutation.specs.declared.Permutation.{Permutation}
 use Rattle.permutation.specs.declared.Arranged.{Arranged}
-use Rattle.permutation.specs.Record.{capacity, wordOf, recordOf, Whole, Holds, Arranges}
-use Rattle.permutation.specs.Rules.{tooLong, taken}
-use Rattle.permutation.proofs.Taken.{taken-holds, holds-taken}
+use Rattle.permutation.specs.Record.{wordOf, recordOf, Whole, Arranges}
+use Rattle.permutation.specs.Rules.{taken}
 use Rattle.permutation.proofs.Arranging.{word-of-record, record-holds, arranged-is-whole}
-use Rattle.permutation.proofs.Promises.{Judged, long, broken, held, judged, past-the-length-is-ignored}
-use Rattle.permutation_order.specs.Rules.{rankSays, unrankSays, successorSays}
+use Rattle.permutation.proofs.Promises.{Judged, long, broken, held, judged, too-long-exactly, past-the-length-is-ignored}
+use Rattle.permutation_order.specs.Rules.{longest, unnumbered, numbered, Ordered, rankSays, unrankSays, successorSays}
+use Rattle.permutation_order.proofs.Numbering.{ordered-numbered, numbered-ordered}
 
 -- ---- the rank
 
-rank-of : (p : Permutation) → Holds p → rankSays p ≡ gives (rankOf (wordOf p))
-rank-of p h = simp (taken-holds p h)
+rank-of : (p : Permutation) → Ordered p → rankSays p ≡ gives (rankOf (wordOf p))
+rank-of p o = simp (ordered-numbered p o)
 
-pub rank-exactly : (p : Permutation) → Whole p → (r : ℕ) → (rankSays p ≡ gives r) ↔ (Holds p × (r ≡ rankOf (wordOf p)))
+pub rank-exactly : (p : Permutation) → Whole p → (r : ℕ) → (rankSays p ≡ gives r) ↔ (Ordered p × (r ≡ rankOf (wordOf p)))
 rank-exactly p l r = (to, λ t. rank-of p (t .0) ∙ ap gives (sym (t .1)))
   where
-    to : rankSays p ≡ gives r → Holds p × (r ≡ rankOf (wordOf p))
+    to : rankSays p ≡ gives r → Ordered p × (r ≡ rankOf (wordOf p))
     to e =
-        let t = then-gave (taken p) (λ w. gives (rankOf w)) r e in
-        let h = holds-taken p (t .0) l (t .1) in
-        (h, gives-same r (rankOf (wordOf p)) (sym e ∙ rank-of p h))
+        let t = then-gave (numbered p) (λ w. gives (rankOf w)) r e in
+        let o = numbered-ordered p (t .0) l (t .1) in
+        (o, gives-same r (rankOf (wordOf p)) (sym e ∙ rank-of p o))
 
 pub rank-tells-how-many-earlier : (p : Permutation) → Whole p → (r : ℕ) → rankSays p ≡ gives r → HowMany (λ (u : List ℕ). IsPermutation (p .len) u × ColexLt u (wordOf p)) r
 rank-tells-how-many-earlier p l r e =
     let t = rank-exactly p l r .0 e in
-    subst⁻¹ (HowMany (λ (u : List ℕ). IsPermutation (p .len) u × ColexLt u (wordOf p))) (t .1) (rank-is-how-many-earlier (p .len) (wordOf p) (t .0 .permutation))
+    subst⁻¹ (HowMany (λ (u : List ℕ). IsPermutation (p .len) u × ColexLt u (wordOf p))) (t .1) (rank-is-how-many-earlier (p .len) (wordOf p) (t .0 .holds .permutation))
 
 pub rank-ignores-the-past : (n : ℕ) (e f : List ℕ) → take n e ≡ take n f → rankSays (record { entries = e; len = n }) ≡ rankSays (record { entries = f; len = n })
-rank-ignores-the-past n e f q = ap (λ (s : Says (List ℕ)). andThen s (λ w. gives (rankOf w))) (past-the-length-is-ignored n e f q)
+unfolding numbered
+rank-ignores-the-past n e f q = ap (λ (s : Says (List ℕ)). andThen (refusedIf (unnumbered n) 1 s) (λ w. gives (rankOf w))) (past-the-length-is-ignored n e f q)
+
+pub unnumbered-exactly : (p : Permutation) → Whole p → (numbered p ≡ refuses 1) ↔ (longest < p .len)
+unfolding numbered
+unnumbered-exactly p l = (to (unnumbered (p .len)) refl, λ h. simp (lt-ltb longest (p .len) h))
+  where
+    to : (s : Bool) → unnumbered (p .len) ≡ s → refusedIf s 1 (taken p) ≡ refuses 1 → longest < p .len
+    to true a e = ltb-true longest (p .len) a
+    to false a e = absurd (omega (arith, too-long-exactly p l .0 e, ltb-false longest (p .len) a))
 
 -- ---- unranking
 
-unrank-below : (n r : ℕ) → n ≤ capacity → r < factorial n → unrankSays n r ≡ gives (unrankOf n r)
-unrank-below n r l h = simp (le-ltb capacity n l, lt-leb (factorial n) r h)
+unrank-below : (n r : ℕ) → n ≤ longest → r < factorial n → unrankSays n r ≡ gives (unrankOf n r)
+unrank-below n r l h = simp (le-ltb longest n l, lt-leb (factorial n) r h)
 
-pub unrank-exactly : (n r : ℕ) (w : List ℕ) → (unrankSays n r ≡ gives w) ↔ ((n ≤ capacity) × IsPermutation n w × (rankOf w ≡ r))
+pub unrank-exactly : (n r : ℕ) (w : List ℕ) → (unrankSays n r ≡ gives w) ↔ ((n ≤ longest) × IsPermutation n w × (rankOf w ≡ r))
 unrank-exactly n r w = (to, from)
   where
-    to : unrankSays n r ≡ gives w → (n ≤ capacity) × IsPermutation n w × (rankOf w ≡ r)
+    to : unrankSays n r ≡ gives w → (n ≤ longest) × IsPermutation n w × (rankOf w ≡ r)
     to e =
-        let a = passed (tooLong n) 1 (refusedIf (leb (factorial n) r) 3 (gives (unrankOf n r))) w e in
+        let a = passed (unnumbered n) 1 (refusedIf (leb (factorial n) r) 3 (gives (unrankOf n r))) w e in
         let b = passed (leb (factorial n) r) 3 (gives (unrankOf n r)) w (a .1) in
         let h = leb-false (factorial n) r (b .0) in
         let q = gives-same (unrankOf n r) w (b .1) in
-        (ltb-false capacity n (a .0), subst (IsPermutation n) q (unrank-is-a-permutation n r h), ap rankOf (sym q) ∙ rank-of-unrank n r h)
+        (ltb-false longest n (a .0), subst (IsPermutation n) q (unrank-is-a-permutation n r h), ap rankOf (sym q) ∙ rank-of-unrank n r h)
 
-    from : (n ≤ capacity) × IsPermutation n w × (rankOf w ≡ r) → unrankSays n r ≡ gives w
+    from : (n ≤ longest) × IsPermutation n w × (rankOf w ≡ r) → unrankSays n r ≡ gives w
     from t =
         unrank-below n r (t .0) (subst (λ (s : ℕ). s < factorial n) (t .2) (rank-is-below n w (t .1)))
         ∙ ap gives (ap (unrankOf n) (sym (t .2)) ∙ unrank-of-rank n w (t .1))
 
-pub no-such-rank-exactly : (n r : ℕ) → (unrankSays n r ≡ refuses 3) ↔ ((n ≤ capacity) × (factorial n ≤ r))
-no-such-rank-exactly n r = (to (tooLong n) refl (leb (factorial n) r) refl, λ t. simp (le-ltb capacity n (t .0), le-leb (factorial n) r (t .1)))
+pub no-such-rank-exactly : (n r : ℕ) → (unrankSays n r ≡ refuses 3) ↔ ((n ≤ longest) × (factorial n ≤ r))
+no-such-rank-exactly n r = (to (unnumbered n) refl (leb (factorial n) r) refl, λ t. simp (le-ltb longest n (t .0), le-leb (factorial n) r (t .1)))
   where
-    to : (s : Bool) → tooLong n ≡ s → (t : Bool) → leb (factorial n) r ≡ t → refusedIf s 1 (refusedIf t 3 (gives (unrankOf n r))) ≡ refuses 3 → (n ≤ capacity) × (factorial n ≤ r)
+    to : (s : Bool) → unnumbered n ≡ s → (t : Bool) → leb (factorial n) r ≡ t → refusedIf s 1 (refusedIf t 3 (gives (unrankOf n r))) ≡ refuses 3 → (n ≤ longest) × (factorial n ≤ r)
     to true a t b e = absurd (omega (arith, refuses-same {A = List ℕ} (refuses 1) 1 3 refl e))
-    to false a true b e = (ltb-false capacity n a, leb-true (factorial n) r b)
+    to false a true b e = (ltb-false longest n a, leb-true (factorial n) r b)
     to false a false b e = absurd (gives-no-refusal (unrankOf n r) 3 e)
 
 -- ---- both ways
@@ -97,39 +107,39 @@ no-such-rank-exactly n r = (to (tooLong n) refl (leb (factorial n) r) refl, λ t
 pub rank-of-unranked : (n r : ℕ) (w : List ℕ) → unrankSays n r ≡ gives w → rankSays (recordOf w) ≡ gives r
 rank-of-unranked n r w e =
     let t = unrank-exactly n r w .0 e in
-    rank-of (recordOf w) (record-holds n w (t .1) (t .0)) ∙ ap gives (ap rankOf (word-of-record w) ∙ t .2)
+    rank-of (recordOf w) (record { holds = record-holds n w (t .1) (omega (arith, t .0)); few = omega (arith, t .0, t .1 .long) }) ∙ ap gives (ap rankOf (word-of-record w) ∙ t .2)
 
 pub unrank-of-ranked : (p : Permutation) → Whole p → (r : ℕ) → rankSays p ≡ gives r → unrankSays (p .len) r ≡ gives (wordOf p)
 unrank-of-ranked p l r e =
     let t = rank-exactly p l r .0 e in
-    unrank-exactly (p .len) r (wordOf p) .1 (t .0 .short, t .0 .permutation, sym (t .1))
+    unrank-exactly (p .len) r (wordOf p) .1 (t .0 .few, t .0 .holds .permutation, sym (t .1))
 
 -- ---- the first and the last
 
-pub first-is-descending : (n : ℕ) → n ≤ capacity → unrankSays n 0 ≡ gives (descending n)
+pub first-is-descending : (n : ℕ) → n ≤ longest → unrankSays n 0 ≡ gives (descending n)
 first-is-descending n l = unrank-exactly n 0 (descending n) .1 (l, descending-is-a-permutation n, descending-rank n)
 
-pub last-is-the-identity : (n r : ℕ) → n ≤ capacity → suc r ≡ factorial n → unrankSays n r ≡ gives (identity n)
+pub last-is-the-identity : (n r : ℕ) → n ≤ longest → suc r ≡ factorial n → unrankSays n r ≡ gives (identity n)
 last-is-the-identity n r l e = unrank-exactly n r (identity n) .1 (l, identity-is-a-permutation n, omega (arith, identity-rank n))
 
 -- ---- the successor
 
 module _ (p : Permutation) (l : Whole p) where
-  successor-of : Holds p → successorSays p ≡ refusedIf (leb (factorial (p .len)) (suc (rankOf (wordOf p)))) 4 (gives (unrankOf (p .len) (suc (rankOf (wordOf p)))))
-  successor-of h = simp (taken-holds p h)
+  successor-of : Ordered p → successorSays p ≡ refusedIf (leb (factorial (p .len)) (suc (rankOf (wordOf p)))) 4 (gives (unrankOf (p .len) (suc (rankOf (wordOf p)))))
+  successor-of o = simp (ordered-numbered p o)
 
   -- where there is one
-  successor-given : (w : List ℕ) → successorSays p ≡ gives w → Holds p × (suc (rankOf (wordOf p)) < factorial (p .len)) × (w ≡ unrankOf (p .len) (suc (rankOf (wordOf p))))
+  successor-given : (w : List ℕ) → successorSays p ≡ gives w → Ordered p × (suc (rankOf (wordOf p)) < factorial (p .len)) × (w ≡ unrankOf (p .len) (suc (rankOf (wordOf p))))
   successor-given w e =
-      let t = then-gave (taken p) (λ u. refusedIf (leb (factorial (p .len)) (suc (rankOf u))) 4 (gives (unrankOf (p .len) (suc (rankOf u))))) w e in
-      let h = holds-taken p (t .0) l (t .1) in
-      let s = passed (leb (factorial (p .len)) (suc (rankOf (wordOf p)))) 4 (gives (unrankOf (p .len) (suc (rankOf (wordOf p))))) w (sym (successor-of h) ∙ e) in
-      (h, leb-false (factorial (p .len)) (suc (rankOf (wordOf p))) (s .0), gives-same w (unrankOf (p .len) (suc (rankOf (wordOf p)))) (sym (s .1)))
+      let t = then-gave (numbered p) (λ u. refusedIf (leb (factorial (p .len)) (suc (rankOf u))) 4 (gives (unrankOf (p .len) (suc (rankOf u))))) w e in
+      let o = numbered-ordered p (t .0) l (t .1) in
+      let s = passed (leb (factorial (p .len)) (suc (rankOf (wordOf p)))) 4 (gives (unrankOf (p .len) (suc (rankOf (wordOf p))))) w (sym (successor-of o) ∙ e) in
+      (o, leb-false (factorial (p .len)) (suc (rankOf (wordOf p))) (s .0), gives-same w (unrankOf (p .len) (suc (rankOf (wordOf p)))) (sym (s .1)))
 
-  pub successor-exactly : (w : List ℕ) → (successorSays p ≡ gives w) ↔ (Holds p × IsPermutation (p .len) w × (rankOf w ≡ suc (rankOf (wordOf p))))
+  pub successor-exactly : (w : List ℕ) → (successorSays p ≡ gives w) ↔ (Ordered p × IsPermutation (p .len) w × (rankOf w ≡ suc (rankOf (wordOf p))))
   successor-exactly w = (to, from)
     where
-      to : successorSays p ≡ gives w → Holds p × IsPermutation (p .len) w × (rankOf w ≡ suc (rankOf (wordOf p)))
+      to : successorSays p ≡ gives w → Ordered p × IsPermutation (p .len) w × (rankOf w ≡ suc (rankOf (wordOf p)))
       to e =
           let t = successor-given w e in (
             t .0,
@@ -137,7 +147,7 @@ module _ (p : Permutation) (l : Whole p) where
             ap rankOf (t .2) ∙ rank-of-unrank (p .len) (suc (rankOf (wordOf p))) (t .1),
           )
 
-      from : Holds p × IsPermutation (p .len) w × (rankOf w ≡ suc (rankOf (wordOf p))) → successorSays p ≡ gives w
+      from : Ordered p × IsPermutation (p .len) w × (rankOf w ≡ suc (rankOf (wordOf p))) → successorSays p ≡ gives w
       from t =
           successor-of (t .0)
           ∙ simp (lt-leb (factorial (p .len)) (suc (rankOf (wordOf p))) (omega (arith, t .2, rank-is-below (p .len) w (t .1))))
@@ -148,24 +158,29 @@ module _ (p : Permutation) (l : Whole p) where
   successor-is-next w e =
       let t = successor-given w e in
       subst⁻¹ (λ (v : List ℕ). ColexLt (wordOf p) v × ((u : List ℕ) → IsPermutation (p .len) u → ColexLt (wordOf p) u → ColexLt u v → ⊥)) (t .2)
-      (next-is-later (p .len) (wordOf p) (t .0 .permutation) (t .1), nothing-between (p .len) (wordOf p) (t .0 .permutation) (t .1))
+      (next-is-later (p .len) (wordOf p) (t .0 .holds .permutation) (t .1), nothing-between (p .len) (wordOf p) (t .0 .holds .permutation) (t .1))
 
-  pub last-exactly : (successorSays p ≡ refuses 4) ↔ (Holds p × (wordOf p ≡ identity (p .len)))
-  last-exactly = (to (judged p l), from)
+  pub last-exactly : (successorSays p ≡ refuses 4) ↔ (Ordered p × (wordOf p ≡ identity (p .len)))
+  unfolding numbered
+  last-exactly = (to (unnumbered (p .len)) refl (judged p l), from)
     where
-      to : Judged p → successorSays p ≡ refuses 4 → Holds p × (wordOf p ≡ identity (p .len))
-      to (long h t) e = absurd (omega (arith, refuses-same (successorSays p) 1 4 (simp t) e))
-      to (broken h n t) e = absurd (omega (arith, refuses-same (successorSays p) 10 4 (simp t) e))
-      to (held h t) e = (h, go (decLe (factorial (p .len)) (suc (rankOf (wordOf p)))))
+      to : (s : Bool) → unnumbered (p .len) ≡ s → Judged p → successorSays p ≡ refuses 4 → Ordered p × (wordOf p ≡ identity (p .len))
+      to true a j e = absurd (omega (arith, refuses-same (successorSays p) 1 4 (simp a) e))
+      to false a (long h t) e = absurd (omega (arith, refuses-same (successorSays p) 1 4 (simp (a, t)) e))
+      to false a (broken h n t) e = absurd (omega (arith, refuses-same (successorSays p) 10 4 (simp (a, t)) e))
+      to false a (held h t) e = (ordered, go (decLe (factorial (p .len)) (suc (rankOf (wordOf p)))))
         where
+          ordered : Ordered p
+          ordered = record { holds = h; few = ltb-false longest (p .len) a }
+
           go : Dec (factorial (p .len) ≤ suc (rankOf (wordOf p))) → wordOf p ≡ identity (p .len)
           go (yes q) = last-is-identity (p .len) (wordOf p) (h .permutation) (omega (arith, rank-is-below (p .len) (wordOf p) (h .permutation)))
           go (no q) =
               absurd
               (gives-no-refusal (unrankOf (p .len) (suc (rankOf (wordOf p)))) 4
-              (sym (successor-of h ∙ simp (lt-leb (factorial (p .len)) (suc (rankOf (wordOf p))) (omega arith))) ∙ e))
+              (sym (successor-of ordered ∙ simp (lt-leb (factorial (p .len)) (suc (rankOf (wordOf p))) (omega arith))) ∙ e))
 
-      from : Holds p × (wordOf p ≡ identity (p .len)) → successorSays p ≡ refuses 4
+      from : Ordered p × (wordOf p ≡ identity (p .len)) → successorSays p ≡ refuses 4
       from t =
           successor-of (t .0)
           ∙ simp (le-leb (factorial (p .len)) (suc (rankOf (wordOf p))) (omega (arith, identity-rank (p .len), ap rankOf (t .1))))
@@ -178,4 +193,4 @@ unrank-gives-a-whole-record n r a h =
 
 pub successor-gives-a-whole-record : (p : Permutation) → Whole p → (r : Arranged) → Arranges (successorSays p) r → Whole (r .value)
 successor-gives-a-whole-record p l r h =
-    arranged-is-whole (successorSays p) r (λ w e. let t = successor-exactly p l w .0 e in omega (arith, t .0 .short, t .1 .long)) h
+    arranged-is-whole (successorSays p) r (λ w e. let t = successor-exactly p l w .0 e in omega (arith, t .0 .holds .short, t .1 .long)) h

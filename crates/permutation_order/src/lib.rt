@@ -1,12 +1,13 @@
-// The colex order of the permutations of up to twenty entries: rank, unrank and successor (document 01, "Permutations"; Knuth 7.2.1.2).
+// The colex order of the permutations of up to twenty entries: rank, unrank and successor (document 01, "Permutations"; document 02, section 7; Knuth 7.2.1.2).
+// A record may hold longer ones, which are not numbered.
 ghost use mathlib.Core.Path.{_≡_};
 ghost use Prim.Native.Nat.{_%_, _≤_, _<_};
 ghost use Rattle.words.specs.Factorial.{factorial as factorialOf};
 ghost use Rattle.answers.specs.Says.{answerSays};
 ghost use Rattle.arrangements.specs.Rank.{rankOf, raise, lastly, unrankOf};
 ghost use Rattle.arrangements.specs.Step.{FirstFall, FirstGreater, turn, exchange, step};
-ghost use Rattle.permutation.specs.Record.{capacity, wordOf, recordOf, Holds, Arranges};
-ghost use Rattle.permutation_order.specs.Rules.{rankSays, unrankSays, successorSays};
+ghost use Rattle.permutation.specs.Record.{wordOf, recordOf, Holds, verdictSays, Arranges};
+ghost use Rattle.permutation_order.specs.Rules.{longest, numbered as numberedOf, rankSays, unrankSays, successorSays};
 use answers::Answer;
 use answers::Refusal;
 use permutation::Arranged;
@@ -14,9 +15,23 @@ use permutation::CAPACITY;
 use permutation::Permutation;
 use permutation::Verdict;
 
+// The greatest length whose permutations are numbered: 20! is the last factorial that fits.
+pub const LONGEST: u64 = 20;
+
+// 1 if the length is above those that are numbered; 1 and 10 of the record.
+fn numbered(p: Permutation) -> Verdict
+    ensures { λ r. ⌜ verdictSays r (wordOf p) ≡ numberedOf p ⌝ }
+{
+    let n = p.len;
+    if n > LONGEST {
+        return Verdict::Refused(Refusal::TooWide);
+    }
+    permutation::checked(p)
+}
+
 // The sum of d_j times j!, where d_j counts the smaller entries left of place j.
 fn weight(p: Permutation) -> u64
-    requires { ⌜ p .len ≤ capacity ⌝ }
+    requires { ⌜ p .len ≤ longest ⌝ }
     ensures { λ r. ⌜ r ≡ rankOf (wordOf p) ⌝ }
 {
     let n = p.len;
@@ -27,7 +42,7 @@ fn weight(p: Permutation) -> u64
     while j < n {
         let x = entries[j as usize];
         let f = table[j as usize];
-        sum += permutation::smaller(entries, 0, j, x) * f;
+        sum += permutation::smaller(&entries, 0, j, x) * f;
         j += 1;
     }
     sum
@@ -37,7 +52,7 @@ fn weight(p: Permutation) -> u64
 pub fn rank(p: Permutation) -> Answer
     ensures { λ r. ⌜ answerSays r ≡ rankSays p ⌝ }
 {
-    match permutation::checked(p) {
+    match numbered(p) {
         Verdict::Refused(e) => Answer::Refused(e),
         Verdict::Given => Answer::Is(weight(p)),
     }
@@ -45,7 +60,7 @@ pub fn rank(p: Permutation) -> Answer
 
 // x, raised by one from d up: so nothing is d.
 fn raised(d: u64, x: u64) -> u64
-    requires { ⌜ x < capacity ⌝ }
+    requires { ⌜ x < longest ⌝ }
     ensures { λ r. ⌜ r ≡ raise d x ⌝ }
 {
     if x < d {
@@ -56,7 +71,7 @@ fn raised(d: u64, x: u64) -> u64
 
 // The permutation of one entry more whose last entry is d: the others from d up are raised by one to make room for it.
 fn with_last(p: Permutation, d: u64) -> Permutation
-    requires { ⌜ Holds p × (p .len < capacity) ⌝ }
+    requires { ⌜ Holds p × (p .len < longest) ⌝ }
     ensures { λ r. ⌜ r ≡ recordOf (lastly d (wordOf p)) ⌝ }
 {
     let n = p.len;
@@ -76,7 +91,7 @@ fn with_last(p: Permutation, d: u64) -> Permutation
 
 // The permutation of n entries of rank r, from the digits of r in the factorial number system, the lowest first.
 fn unranked(n: u64, r: u64) -> Permutation
-    requires { ⌜ n ≤ capacity ⌝ }
+    requires { ⌜ n ≤ longest ⌝ }
     ensures { λ p. ⌜ p ≡ recordOf (unrankOf n (r % factorialOf n)) ⌝ }
 {
     let mut p = Permutation {
@@ -98,7 +113,7 @@ fn unranked(n: u64, r: u64) -> Permutation
 pub fn unrank(n: u64, r: u64) -> Arranged
     ensures { λ a. ⌜ Arranges (unrankSays n r) a ⌝ }
 {
-    if n > CAPACITY as u64 {
+    if n > LONGEST {
         return permutation::refused(Refusal::TooWide);
     }
     if r >= count::factorial(n) {
@@ -186,7 +201,7 @@ fn stepped(p: Permutation, i: u64, k: u64) -> Permutation
 pub fn successor(p: Permutation) -> Arranged
     ensures { λ r. ⌜ Arranges (successorSays p) r ⌝ }
 {
-    match permutation::checked(p) {
+    match numbered(p) {
         Verdict::Refused(e) => permutation::refused(e),
         Verdict::Given => {
             let n = p.len;

@@ -1,6 +1,7 @@
 // The requests on permutations (docs/RULES.md, section 13; document 01, "Permutations"), each answered by a call of the library. A list
 // longer than a record holds stands for a permutation of that length, which every call refuses by 1.
 ghost use Prim.Native.Nat.{_≤_};
+ghost use Rattle.permutation.specs.Record.{capacity};
 use answers::Answer;
 use permutation::Arranged;
 use permutation::CAPACITY;
@@ -10,7 +11,7 @@ use replies::Reply;
 
 // How many of n entries a record holds.
 fn held(n: usize) -> usize
-    ensures { λ r. ⌜ (r ≤ n) × (r ≤ 20) ⌝ }
+    ensures { λ r. ⌜ (r ≤ n) × (r ≤ capacity) ⌝ }
 {
     if n < CAPACITY {
         return n;

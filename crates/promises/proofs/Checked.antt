@@ -20,6 +20,7 @@ use Rattle.answers.proofs.Terms.{word-of-index}
 use Rattle.merging.specs.Sorting.{merged}
 use Rattle.deletion.specs.Absent.{absentFrom}
 use Rattle.permutation.specs.Rules.{taken}
+use Rattle.permutation_order.specs.Rules.{numbered}
 use Rattle.arrangements.specs.Permutation.{isPermutation}
 use Rattle.arrangements.specs.Rank.{rankBelow}
 use Rattle.positional.specs.Positional.{product, cornerOf, numberOf, digitsOf}
@@ -46,7 +47,7 @@ without-63 = simp (word-of-index Forbidden 64 (0 ∷ 2 ∷ 63 ∷ []) (omega ari
 -- a line for each point
 pub hand-checked : AllHold cases
 unfolding choose rankFrom greatest fill nextFrom reset bitsOf onesFrom smallerIn multiplicity crossings equalPairs inversions merged holds reaches absentFrom
-    taken isPermutation rankBelow factorial product cornerOf numberOf digitsOf
+    taken numbered isPermutation rankBelow factorial product cornerOf numberOf digitsOf
 hand-checked =
     refl and refl
     and refl and refl and refl

@@ -15,11 +15,11 @@ is-permutation-requires c κs = search needs
 
 returns-2 : tie.Need-returns-2
 unfolding taken
-returns-2 c = simp (le-ltb _ _ (c .before .before .if1 .left), sym (c .before .is-permutation .ensures) ∙ c .if2 .taken)
+returns-2 c = simp (le-ltb _ _ (c .before .before .before .before .if1 .left), sym (c .before .is-permutation .ensures) ∙ c .if2 .taken)
 
 returns-3 : tie.Need-returns-3
 unfolding taken
-returns-3 c = simp (le-ltb _ _ (c .before .before .if1 .left), sym (c .before .is-permutation .ensures) ∙ c .if2 .left)
+returns-3 c = simp (le-ltb _ _ (c .before .before .before .before .if1 .left), sym (c .before .is-permutation .ensures) ∙ c .if2 .left)
 
 pub checked-spec : {M : Type 1} → statement M
 checked-spec = tie.close (tie.spec returns is-permutation-requires returns-2 returns-3)

@@ -37,9 +37,9 @@ returns-4 : tie.Need-returns-4
 returns-4 c =
     arranges-refusal _ _ _ (c .refused4 .ensures)
     (simp (
-      le-ltb _ _ (c .before .before .before .before .before .if1 .left),
-      le-ltb _ _ (c .before .before .before .before .if2 .left),
-      eq-eqb _ _ (c .before .before .before .if3 .left),
+      le-ltb _ _ (c .before .before .before .before .before .before .before .if1 .left),
+      le-ltb _ _ (c .before .before .before .before .before .before .if2 .left),
+      eq-eqb _ _ (c .before .before .before .before .before .if3 .left),
       sym (c .before .before .is-permutation .ensures) ∙ not-true _ (c .before .if4 .taken),
     ))
 
@@ -53,23 +53,23 @@ returns-5 : tie.Need-returns-5
 returns-5 c =
     arranges-refusal _ _ _ (c .refused5 .ensures)
     (simp (
-      le-ltb _ _ (c .before .before .before .before .before .before .before .if1 .left),
-      le-ltb _ _ (c .before .before .before .before .before .before .if2 .left),
-      eq-eqb _ _ (c .before .before .before .before .before .if3 .left),
-      sym (c .before .before .before .before .is-permutation .ensures) ∙ not-false _ (c .before .before .before .if4 .left),
+      le-ltb _ _ (c .before .before .before .before .before .before .before .before .before .before .before .if1 .left),
+      le-ltb _ _ (c .before .before .before .before .before .before .before .before .before .before .if2 .left),
+      eq-eqb _ _ (c .before .before .before .before .before .before .before .before .before .if3 .left),
+      sym (c .before .before .before .before .before .before .is-permutation .ensures) ∙ not-false _ (c .before .before .before .before .before .if4 .left),
       sym (c .before .before .is-permutation2 .ensures) ∙ not-true _ (c .before .if5 .taken),
     ))
 
 composed-requires : tie.Need-composed-requires
 composed-requires c κs =
-    let s = c .before .before .before .before .before .before .before in
+    let s = c .before .before .before .before .before .before .before .before .before .before .before in
     record {
       left =
-          tested-holds (s .args .p) (search needs) (c .before .before .before .before .before .before .if1 .left)
-          (sym (c .before .before .before .is-permutation .ensures) ∙ not-false _ (c .before .before .if4 .left));
+          tested-holds (s .args .p) (search needs) (c .before .before .before .before .before .before .before .before .before .before .if1 .left)
+          (sym (c .before .before .before .before .before .is-permutation .ensures) ∙ not-false _ (c .before .before .before .before .if4 .left));
       right =
-          tested-holds (s .args .q) (search needs) (c .before .before .before .before .before .if2 .left) (sym (c .before .is-permutation2 .ensures) ∙ not-false _ (c .if5 .left));
-      lengths = c .before .before .before .before .if3 .left;
+          tested-holds (s .args .q) (search needs) (c .before .before .before .before .before .before .before .before .before .if2 .left) (sym (c .before .is-permutation2 .ensures) ∙ not-false _ (c .if5 .left));
+      lengths = c .before .before .before .before .before .before .before .before .if3 .left;
     }
 
 given-requires : tie.Need-given-requires
@@ -77,13 +77,13 @@ given-requires c κs = search needs
 
 returns-6 : tie.Need-returns-6
 returns-6 c =
-    let s = c .before .before .before .before .before .before .before .before .before in
+    let s = c .before .before .before .before .before .before .before .before .before .before .before .before .before in
     arranges-given _ _ _ (compose (wordOf (s .args .p)) (wordOf (s .args .q))) (c .given .ensures) (c .before .composed .ensures)
     (simp (
-      le-ltb _ _ (c .before .before .before .before .before .before .before .before .if1 .left),
-      le-ltb _ _ (c .before .before .before .before .before .before .before .if2 .left),
-      eq-eqb _ _ (c .before .before .before .before .before .before .if3 .left),
-      sym (c .before .before .before .before .before .is-permutation .ensures) ∙ not-false _ (c .before .before .before .before .if4 .left),
+      le-ltb _ _ (c .before .before .before .before .before .before .before .before .before .before .before .before .if1 .left),
+      le-ltb _ _ (c .before .before .before .before .before .before .before .before .before .before .before .if2 .left),
+      eq-eqb _ _ (c .before .before .before .before .before .before .before .before .before .before .if3 .left),
+      sym (c .before .before .before .before .before .before .before .is-permutation .ensures) ∙ not-false _ (c .before .before .before .before .before .before .if4 .left),
       sym (c .before .before .before .is-permutation2 .ensures) ∙ not-false _ (c .before .before .if5 .left),
     ))
 

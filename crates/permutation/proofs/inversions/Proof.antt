@@ -31,12 +31,12 @@ add-smaller : tie.Need-add-smaller Inv-loop μ-loop
 add-smaller c = omega arith
 
 smaller-requires : tie.Need-smaller-requires Inv-loop μ-loop
-smaller-requires c κs = omega arith
+smaller-requires c κs = (omega arith, omega arith, c .before .before .loop .inv .2)
 
 add-sum : tie.Need-add-sum Inv-loop μ-loop
 add-sum c =
-    let p = c .before .before .before .before .args .p in
-    let l = c .before .before .loop in
+    let p = c .before .before .before .before .before .args .p in
+    let l = c .before .before .before .loop in
     omega (arith, c .smaller .ensures, smaller-few (p .entries) (l .i + 1) (p .len) (getD (p .entries) (l .i) 0) (omega (arith, l .inv .2)))
 
 add-i : tie.Need-add-i Inv-loop μ-loop
@@ -47,12 +47,12 @@ loop-less c = omega arith
 
 loop-again : tie.Need-loop-again Inv-loop μ-loop
 loop-again c =
-    let p = c .before .before .before .before .args .p in
-    let l = c .before .before .loop in (
+    let p = c .before .before .before .before .before .args .p in
+    let l = c .before .before .before .loop in (
       omega arith,
       omega (arith, c .smaller .ensures, smaller-few (p .entries) (l .i + 1) (p .len) (getD (p .entries) (l .i) 0) (omega (arith, l .inv .2))),
       l .inv .2,
-      omega (arith, l .inv .3, c .smaller .ensures, inversions-turn (p .entries) (l .i) (p .len) (c .before .loop-test .taken) (omega (arith, l .inv .2))),
+      omega (arith, l .inv .3, c .smaller .ensures, inversions-turn (p .entries) (l .i) (p .len) (c .before .before .loop-test .taken) (omega (arith, l .inv .2))),
     )
 
 returns : tie.Need-returns Inv-loop μ-loop

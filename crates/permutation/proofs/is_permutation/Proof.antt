@@ -2,7 +2,7 @@
 use mathlib.Core.Path.{_≡_, sym}
 use Prim.Native.Nat.{_≤_, _-_}
 use native.Mathlib.Omega.{arith}
-use borrow.Author.Needs.{needs}
+use denote.Ref.{now}
 use lib.ListN.{length}
 use Rattle.permutation.specs.Record.{capacity}
 use Rattle.permutation.proofs.Seen.{Seen, seen-none, seen-more, seen-all, seen-large, seen-again}
@@ -10,13 +10,13 @@ use Rattle.permutation.proofs.is_permutation.Statement.{statement}
 use Rattle.permutation.proofs.is_permutation.Tie as tie
 
 abbrev Inv-loop : tie.InvT-loop
-Inv-loop p n seen₀ i₀ seen i = (i ≤ n) × (length (p .entries) ≡ capacity) × Seen capacity (p .entries) n i seen
+Inv-loop entries n seen₀ i₀ seen i = (i ≤ n) × (length entries ≡ capacity) × Seen capacity entries n i seen
 
 abbrev μ-loop : tie.MeasureT-loop
-μ-loop p n seen₀ i₀ seen i = n - i
+μ-loop entries n seen₀ i₀ seen i = n - i
 
 loop-holds : tie.Need-loop-holds Inv-loop μ-loop
-loop-holds c = (omega arith, search needs, seen-none capacity (c .args .t1 .entries) (c .args .t1 .len))
+loop-holds c = (omega arith, c .pre .1, seen-none capacity (now (c .args .entries)) (c .args .n))
 
 mul-x : tie.Need-mul-x Inv-loop μ-loop
 mul-x c = omega arith
@@ -28,7 +28,7 @@ returns : tie.Need-returns Inv-loop μ-loop
 returns c =
     let s = c .before .before .before .before in
     let i = c .before .before .before .loop in
-    sym (seen-large (s .args .t1 .entries) (s .args .t1 .len) (omega (arith, s .pre)) (i .i) (c .before .before .loop-test .taken) (c .if1 .taken))
+    sym (seen-large (now (s .args .entries)) (s .args .n) (omega (arith, s .pre .0, s .pre .1)) (i .i) (c .before .before .loop-test .taken) (c .if1 .taken))
 
 array-read-if2 : tie.Need-array-read-if2 Inv-loop μ-loop
 array-read-if2 c = omega arith
@@ -37,7 +37,7 @@ returns-2 : tie.Need-returns-2 Inv-loop μ-loop
 returns-2 c =
     let s = c .before .before .before .before .before in
     let i = c .before .before .before .before .loop in
-    sym (seen-again (s .args .t1 .entries) (s .args .t1 .len) (omega (arith, s .pre)) capacity (i .i) (i .seen) (i .inv .2) (c .before .before .before .loop-test .taken) (c .if2 .taken))
+    sym (seen-again (now (s .args .entries)) (s .args .n) (omega (arith, s .pre .0, s .pre .1)) capacity (i .i) (i .seen) (i .inv .2) (c .before .before .before .loop-test .taken) (c .if2 .taken))
 
 array-write-seen : tie.Need-array-write-seen Inv-loop μ-loop
 array-write-seen c = omega arith
@@ -52,13 +52,13 @@ loop-again : tie.Need-loop-again Inv-loop μ-loop
 loop-again c =
     let s = c .before .before .before .before .before in
     let i = c .before .before .before .before .loop in
-    (omega arith, i .inv .1, seen-more capacity (s .args .t1 .entries) (s .args .t1 .len) (i .i) (i .seen) (i .inv .2) (s .pre) (c .before .if1 .left) (c .if2 .left))
+    (omega arith, i .inv .1, seen-more capacity (now (s .args .entries)) (s .args .n) (i .i) (i .seen) (i .inv .2) (s .pre .0) (c .before .if1 .left) (c .if2 .left))
 
 returns-3 : tie.Need-returns-3 Inv-loop μ-loop
 returns-3 c =
     let s = c .before .before in
     let i = c .before .loop in
-    sym (seen-all (s .args .t1 .entries) (s .args .t1 .len) (omega (arith, s .pre)) capacity (i .i) (i .seen) (i .inv .2) (c .loop-test .left))
+    sym (seen-all (now (s .args .entries)) (s .args .n) (omega (arith, s .pre .0, s .pre .1)) capacity (i .i) (i .seen) (i .inv .2) (c .loop-test .left))
 
 pub is-permutation-spec : {M : Type 1} → statement M
 is-permutation-spec =

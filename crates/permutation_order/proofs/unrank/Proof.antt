@@ -9,15 +9,16 @@ use Rattle.words.specs.Pick.{pick}
 use Rattle.words.specs.Factorial.{factorial}
 use Rattle.arrangements.specs.Rank.{unrankOf}
 use Rattle.count.specs.Factorial.{factorialOf}
-use Rattle.permutation.specs.Record.{capacity, recordOf}
+use Rattle.permutation.specs.Record.{recordOf}
 use Rattle.permutation.proofs.Arranging.{arranges-refusal, arranges-given}
+use Rattle.permutation_order.specs.Rules.{longest}
 use Rattle.permutation_order.proofs.Making.{made, made-all}
 use Rattle.permutation_order.proofs.unrank.Statement.{statement}
 use Rattle.permutation_order.proofs.unrank.Tie as tie
 
--- up to the capacity the table has the factorial
-in-table : (n : ℕ) → n ≤ capacity → factorialOf n ≡ factorial n
-in-table n h = ap (λ (t : Bool). pick t (factorial n) 0) (le-leb n capacity h)
+-- up to the greatest length that is numbered the table has the factorial
+in-table : (n : ℕ) → n ≤ longest → factorialOf n ≡ factorial n
+in-table n h = ap (λ (t : Bool). pick t (factorial n) 0) (le-leb n longest h)
 
 refused-requires : tie.Need-refused-requires
 refused-requires c κs = search needs

@@ -37,22 +37,22 @@ array-read-f : tie.Need-array-read-f Inv-loop μ-loop
 array-read-f c = omega arith
 
 smaller-requires : tie.Need-smaller-requires Inv-loop μ-loop
-smaller-requires c κs = omega arith
+smaller-requires c κs = (omega arith, omega arith, search needs)
 
 mul-sum : tie.Need-mul-sum Inv-loop μ-loop
 mul-sum c =
-    let p = c .before .before .before .before .before .args .p in
-    let l = c .before .before .loop in
-    let f = c .before .before .before .factorials .ensures .at (l .j) (omega arith) in
-    let t = rank-turn (p .entries) (p .len) (l .j) (l .sum) _ _ (c .before .loop-test .taken) (l .inv .1) (c .smaller .ensures) f in
+    let p = c .before .before .before .before .before .before .args .p in
+    let l = c .before .before .before .loop in
+    let f = c .before .before .before .before .factorials .ensures .at (l .j) (omega arith) in
+    let t = rank-turn (p .entries) (p .len) (l .j) (l .sum) _ _ (c .before .before .loop-test .taken) (l .inv .1) (c .smaller .ensures) f in
     omega (arith, t, rank-fits (wordOf p) (l .j + 1) (omega arith))
 
 add-sum : tie.Need-add-sum Inv-loop μ-loop
 add-sum c =
-    let p = c .before .before .before .before .before .args .p in
-    let l = c .before .before .loop in
-    let f = c .before .before .before .factorials .ensures .at (l .j) (omega arith) in
-    let t = rank-turn (p .entries) (p .len) (l .j) (l .sum) _ _ (c .before .loop-test .taken) (l .inv .1) (c .smaller .ensures) f in
+    let p = c .before .before .before .before .before .before .args .p in
+    let l = c .before .before .before .loop in
+    let f = c .before .before .before .before .factorials .ensures .at (l .j) (omega arith) in
+    let t = rank-turn (p .entries) (p .len) (l .j) (l .sum) _ _ (c .before .before .loop-test .taken) (l .inv .1) (c .smaller .ensures) f in
     omega (arith, t, rank-fits (wordOf p) (l .j + 1) (omega arith))
 
 add-j : tie.Need-add-j Inv-loop μ-loop
@@ -63,10 +63,10 @@ loop-less c = omega arith
 
 loop-again : tie.Need-loop-again Inv-loop μ-loop
 loop-again c =
-    let p = c .before .before .before .before .before .args .p in
-    let l = c .before .before .loop in
-    let f = c .before .before .before .factorials .ensures .at (l .j) (omega arith) in
-    let t = rank-turn (p .entries) (p .len) (l .j) (l .sum) _ _ (c .before .loop-test .taken) (l .inv .1) (c .smaller .ensures) f in
+    let p = c .before .before .before .before .before .before .args .p in
+    let l = c .before .before .before .loop in
+    let f = c .before .before .before .before .factorials .ensures .at (l .j) (omega arith) in
+    let t = rank-turn (p .entries) (p .len) (l .j) (l .sum) _ _ (c .before .before .loop-test .taken) (l .inv .1) (c .smaller .ensures) f in
     (omega arith, t)
 
 returns : tie.Need-returns Inv-loop μ-loop

@@ -72,7 +72,7 @@ returns c =
     let w = wordOf (s .args .t1) in
     let i : l .i ≡ s .args .t1 .len = omega arith in
     filled-record (lastly (s .args .d) w) _ (s .args .t1 .len + 1) (s .args .t1 .len + 1)
-    (fill-more (at (lastly (s .args .d) w)) zeros (l .out) (s .args .t1 .len) (s .args .d) (s .pre .1)
+    (fill-more (at (lastly (s .args .d) w)) zeros (l .out) (s .args .t1 .len) (s .args .d) (omega (arith, s .pre .1))
     (sym (lastly-end (s .args .d) w (s .args .t1 .len) (sym (s .pre .0 .permutation .long)))) (subst (Filled (at (lastly (s .args .d) w)) zeros (l .out)) i (l .inv .1)))
     refl (lastly-long (s .args .d) w ∙ ap suc (s .pre .0 .permutation .long) ∙ sym (add-one (s .args .t1 .len))) (omega (arith, s .pre .1))
 

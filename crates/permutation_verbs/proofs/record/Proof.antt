@@ -2,11 +2,12 @@
 use Prim.Native.Nat.{_-_, _≤_}
 use lib.ListN.{length}
 use borrow.Author.Needs.{needs}
+use Rattle.permutation.specs.Record.{capacity}
 use Rattle.permutation_verbs.proofs.record.Statement.{statement}
 use Rattle.permutation_verbs.proofs.record.Tie as tie
 
 abbrev Inv-loop : tie.InvT-loop
-Inv-loop list entries₀ n i₀ entries i = (i ≤ n) × (n ≤ length list) × (n ≤ 20)
+Inv-loop list entries₀ n i₀ entries i = (i ≤ n) × (n ≤ length list) × (n ≤ capacity)
 
 abbrev μ-loop : tie.MeasureT-loop
 μ-loop list entries₀ n i₀ entries i = n - i

@@ -3,11 +3,12 @@ use mathlib.Core.Path.{_≡_}
 use Prim.Native.Nat.{_-_, _≤_}
 use lib.ListN.{length}
 use borrow.Author.Needs.{needs}
+use Rattle.permutation.specs.Record.{capacity}
 use Rattle.permutation_verbs.proofs.write.Statement.{statement}
 use Rattle.permutation_verbs.proofs.write.Tie as tie
 
 abbrev Inv-loop : tie.InvT-loop
-Inv-loop places₀ entries n i₀ places i = (i ≤ n) × (n ≤ 20) × (n ≤ length places) × (length places ≡ length places₀)
+Inv-loop places₀ entries n i₀ places i = (i ≤ n) × (n ≤ capacity) × (n ≤ length places) × (length places ≡ length places₀)
 
 abbrev μ-loop : tie.MeasureT-loop
 μ-loop places₀ entries n i₀ places i = n - i

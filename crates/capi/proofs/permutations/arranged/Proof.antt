@@ -7,29 +7,23 @@ use Rattle.capi.proofs.permutations.arranged.Lts as lts
 use Rattle.boundary.proofs.answer.Reads as answer-reads
 use Rattle.boundary.proofs.refused.Reads as refused-reads
 
--- src/permutations.rt:24:17
 enum-told : tie.Need-enum-told
 enum-told c = search needs
 
--- src/permutations.rt:27:13
 answer-requires : tie.Need-answer-requires
 answer-requires c κs = search needs
 
--- src/permutations.rt:29:26
 enum-known-verdict : tie.Need-enum-known-verdict
 enum-known-verdict c = search needs
 
--- src/permutations.rt:29:32
 refused-requires : tie.Need-refused-requires
 refused-requires c κs = search needs
 
--- src/permutations.rt:17:1
 returns : tie.Need-returns
-returns c = search needs
+returns c = simp (c .before .before .before .enum-told .given .1, c .answer .ensures) (refl, (refl, refl))
 
--- src/permutations.rt:17:1
 returns-2 : tie.Need-returns-2
-returns-2 c = simp (c .before .before .verdict .given .1, c .refused .ensures) (refl, refl)
+returns-2 c = simp (c .before .before .verdict .given .1, c .refused .ensures) (refl, (refl, refl))
 
 pub arranged-spec : {M : Type 1} → statement M
 arranged-spec =

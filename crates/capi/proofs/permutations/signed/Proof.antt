@@ -8,31 +8,24 @@ use Rattle.boundary.proofs.answer.Reads as answer-reads
 use Rattle.boundary.proofs.is_minus.Reads as is-minus-reads
 use Rattle.boundary.proofs.refused.Reads as refused-reads
 
--- src/permutations.rt:39:19
 enum-known-a : tie.Need-enum-known-a
 enum-known-a c = search needs
 
--- src/permutations.rt:40:20
 is-minus-requires : tie.Need-is-minus-requires
 is-minus-requires c κs = search needs
 
--- src/permutations.rt:41:13
 answer-requires : tie.Need-answer-requires
 answer-requires c κs = search needs
 
--- src/permutations.rt:43:24
 enum-known-a-2 : tie.Need-enum-known-a-2
 enum-known-a-2 c = search needs
 
--- src/permutations.rt:43:30
 refused-requires : tie.Need-refused-requires
 refused-requires c κs = search needs
 
--- src/permutations.rt:34:1
 returns : tie.Need-returns
 returns c = search needs
 
--- src/permutations.rt:34:1
 returns-2 : tie.Need-returns-2
 returns-2 c = simp (c .before .before .a2 .given .1, c .refused .ensures) (refl, refl)
 

@@ -1,0 +1,158 @@
+// Times image, sign, inverse and composition of permutations: the Rust original beside this port's static library, on the same permutations, in
+// one program. The Rust's calls are on its vectors as they stand, checked by nobody, and a result is a new vector, which is freed; ours check
+// every record that they take, and write to places of the caller's. Both sides are functions that are not inlined.
+//
+//   sample     permutations of a length, from a fixed seed
+//   race       the least time of each side over a number of rounds, in turns, after both gave the same answers
+
+use multiindex::{Permutation, Sign};
+use std::time::{Duration, Instant};
+
+const SIZE: usize = 256;
+const TURNS: usize = 100;
+const ROUNDS: usize = 15;
+const CAPACITY: usize = 64;
+
+// What comes back over the C boundary: a refusal's number, 0 for an answer, and its place.
+#[repr(C)]
+struct Status {
+    number: u64,
+    at: u64,
+}
+
+#[link(name = "capi", kind = "static")]
+unsafe extern "C" {
+    fn gudrenoss_permutation_image(p: &[u64; CAPACITY], n: u64, i: u64, entry: &mut u64) -> Status;
+    fn gudrenoss_permutation_sign(p: &[u64; CAPACITY], n: u64, minus: &mut bool) -> Status;
+    fn gudrenoss_permutation_inverse(p: &[u64; CAPACITY], n: u64, entries: &mut [u64; CAPACITY], len: &mut u64) -> Status;
+    fn gudrenoss_permutation_compose(
+        p: &[u64; CAPACITY],
+        n: u64,
+        q: &[u64; CAPACITY],
+        m: u64,
+        entries: &mut [u64; CAPACITY],
+        len: &mut u64,
+    ) -> Status;
+}
+
+// A record of ours.
+struct Record {
+    entries: [u64; CAPACITY],
+    len: u64,
+}
+
+// ---- one call of each side: what it gives is left in a place, and a part of it comes back
+
+#[derive(Clone, Copy)]
+enum Call {
+    Image,
+    Sign,
+    Inverse,
+    Compose,
+}
+
+fn ours(call: Call, p: &Record, q: &Record, out: &mut Record) -> u64 {
+    let (mut number, mut minus) = (0, false);
+    let back = unsafe {
+        match call {
+            Call::Image => gudrenoss_permutation_image(&p.entries, p.len, p.len - 1, &mut number),
+            Call::Sign => gudrenoss_permutation_sign(&p.entries, p.len, &mut minus),
+            Call::Inverse => gudrenoss_permutation_inverse(&p.entries, p.len, &mut out.entries, &mut out.len),
+            Call::Compose => gudrenoss_permutation_compose(&p.entries, p.len, &q.entries, q.len, &mut out.entries, &mut out.len),
+        }
+    };
+    assert_eq!((back.number, back.at), (0, 0), "orders: refused");
+    match call {
+        Call::Image => number,
+        Call::Sign => minus as u64,
+        _ => out.entries[out.len as usize - 1],
+    }
+}
+
+#[inline(never)]
+fn their_image(p: &Permutation, i: usize) -> usize {
+    p.apply(i)
+}
+
+#[inline(never)]
+fn their_sign(p: &Permutation) -> Sign {
+    p.sign()
+}
+
+#[inline(never)]
+fn their_inverse(p: &Permutation) -> Permutation {
+    p.inverse()
+}
+
+#[inline(never)]
+fn their_composition(p: &Permutation, q: &Permutation) -> Permutation {
+    p.compose(q)
+}
+
+fn theirs(call: Call, p: &Permutation, q: &Permutation) -> u64 {
+    match call {
+        Call::Image => their_image(p, p.len() - 1) as u64,
+        Call::Sign => (their_sign(p) == Sign::Neg) as u64,
+        Call::Inverse => their_inverse(p).parts()[p.len() - 1] as u64,
+        Call::Compose => their_composition(p, q).parts()[p.len() - 1] as u64,
+    }
+}
+
+// ---- the inputs and the race
+
+fn sample(n: usize) -> Vec<Vec<usize>> {
+    let mut state = 0x9E37_79B9_7F4A_7C15u64;
+    let mut below = |k: usize| {
+        state ^= state << 13;
+        state ^= state >> 7;
+        state ^= state << 17;
+        (state % k as u64) as usize
+    };
+    let mut shuffled = || {
+        let mut p: Vec<usize> = (0..n).collect();
+        (1..n).rev().for_each(|i| p.swap(i, below(i + 1)));
+        p
+    };
+    (0..SIZE).map(|_| shuffled()).collect()
+}
+
+fn record(p: &[usize]) -> Record {
+    let mut entries = [0; CAPACITY];
+    entries.iter_mut().zip(p).for_each(|(place, &entry)| *place = entry as u64);
+    Record { entries, len: p.len() as u64 }
+}
+
+fn timed(mut call: impl FnMut(usize) -> u64) -> (Duration, u64) {
+    let start = Instant::now();
+    let mut sum = 0u64;
+    for i in 0..TURNS * SIZE {
+        sum = sum.wrapping_mul(31).wrapping_add(call(i % SIZE));
+    }
+    (start.elapsed(), sum)
+}
+
+fn race(name: &str, call: Call, n: usize) {
+    let drawn = sample(n);
+    let records: Vec<_> = drawn.iter().map(|p| record(p)).collect();
+    let vectors: Vec<_> = drawn.iter().map(|p| Permutation::new(p.iter().copied())).collect();
+    let mut out = record(&[]);
+    let (mut here, mut there) = (Duration::MAX, Duration::MAX);
+    for _ in 0..ROUNDS {
+        let (a, ours_said) = timed(|i| ours(call, &records[i], &records[SIZE - 1 - i], &mut out));
+        let (b, theirs_said) = timed(|i| theirs(call, &vectors[i], &vectors[SIZE - 1 - i]));
+        assert_eq!(ours_said, theirs_said, "orders: the answers differ: {name}, {n}");
+        here = here.min(a);
+        there = there.min(b);
+    }
+    let each = |d: Duration| d.as_secs_f64() * 1e9 / (TURNS * SIZE) as f64;
+    println!("{name:12} {n:>6} {:>10.1} {:>10.1} {:>8.2}", each(here), each(there), each(here) / each(there));
+}
+
+fn main() {
+    println!("{:12} {:>6} {:>10} {:>10} {:>8}", "call", "length", "here, ns", "Rust, ns", "ratio");
+    for (name, call) in [("image", Call::Image), ("sign", Call::Sign), ("inverse", Call::Inverse), ("composition", Call::Compose)] {
+        for n in [4, 20, 64] {
+            race(name, call, n);
+        }
+    }
+}
