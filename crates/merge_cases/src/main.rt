@@ -107,51 +107,50 @@ fn empty() -> Tally {
     }
 }
 
-// One case more: a pair is held to the law of two, and a triple of accepted records to those of three.
+// One case more: a pair is held to the law of two, a triple of accepted records to those of three.
 fn with_case(tally: Tally, space: Space, t: u64) -> Tally {
     let seed = spaces::next(tally.seed);
     let case = spaces::triple(space, t, seed);
-    let mut out = tally;
-    out.seed = seed;
     if spaces::is_of_two(space) {
-        return noted(
-            out,
-            case,
-            laws::of_two(case.x, case.y),
-            laws::exchanges(case.x, case.y),
-        );
+        let x = case.x;
+        let y = case.y;
+        return noted(tally, seed, case, laws::of_two(x, y), laws::exchanges(x, y));
     }
     if laws::accepted(case) {
-        return noted(out, case, laws::of_three(case), laws::hold(case));
+        return noted(tally, seed, case, laws::of_three(case), laws::hold(case));
     }
+    let mut out = tally;
+    out.seed = seed;
     out
 }
 
 // The number of a case's answer, 0 where it has no refusal, and whether its laws hold.
-fn noted(tally: Tally, case: Triple, number: u64, holds: bool) -> Tally {
-    let mut out = tally;
-    if number == 0 {
-        out.answered = more(out.answered);
+fn noted(tally: Tally, seed: u64, case: Triple, number: u64, holds: bool) -> Tally {
+    let before = tally.first;
+    let first = chosen(holds, before, case);
+    Tally {
+        answered: more(tally.answered, number == 0),
+        with_1: more(tally.with_1, number == 1),
+        with_5: more(tally.with_5, number == 5),
+        with_6: more(tally.with_6, number == 6),
+        with_7: more(tally.with_7, number == 7),
+        differ: more(tally.differ, !holds),
+        first,
+        seed,
     }
-    if number == 1 {
-        out.with_1 = more(out.with_1);
-    }
-    if number == 5 {
-        out.with_5 = more(out.with_5);
-    }
-    if number == 6 {
-        out.with_6 = more(out.with_6);
-    }
-    if number == 7 {
-        out.with_7 = more(out.with_7);
-    }
-    if !holds {
-        out.differ = more(out.differ);
-        out.first = case;
-    }
-    out
 }
 
-fn more(n: u64) -> u64 {
-    std::num::wrapping_add_u64(n, 1)
+fn chosen(holds: bool, before: Triple, case: Triple) -> Triple {
+    if holds {
+        return before;
+    }
+    case
+}
+
+// One more if so.
+fn more(n: u64, so: bool) -> u64 {
+    if so {
+        return std::num::wrapping_add_u64(n, 1);
+    }
+    n
 }
