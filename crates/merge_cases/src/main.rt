@@ -1,5 +1,5 @@
-// Runs the laws of merging (docs/RULES.md, section 6; crate merge_laws) over the library's own calls: for each space of cases a line with how many
-// there are, what the calls answered, and how many cases differ from a law, and then the first of those. crates/merge_cases/stdout holds 0 of each.
+// Runs the laws of merging (docs/RULES.md, section 6; crate merge_laws) over the library's own calls: for each space of cases a line with what the
+// calls answered and how many cases differ from a law, and then the first of those. crates/merge_cases/stdout has 0 that differ.
 mod laws; // laws.rt: the laws of two records and of three
 mod spaces; // spaces.rt: the cases
 
