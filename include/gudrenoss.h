@@ -115,7 +115,7 @@ enum gudrenoss_number {
     GUDRENOSS_OUTSIDE = 7,            /* a symbol, digit, axis or position is not below its bound, or the symbol is absent */
     GUDRENOSS_SHAPE = 8,              /* lengths or radices differ, or a buffer has too little room */
     GUDRENOSS_TOO_BIG = 9,            /* the number to be stated is 2^64 or more */
-    GUDRENOSS_NOT_A_PERMUTATION = 10  /* the entries are no bijection of 0 .. len - 1 */
+    GUDRENOSS_NOT_A_PERMUTATION = 10  /* the entries are no bijection of 0 .. len - 1, or one past the length is not zero */
 };
 
 /* What the number of a refusal means, in a few words. It stands here and not in the library. */
@@ -137,8 +137,10 @@ static inline const char *gudrenoss_refusal_text(uint64_t number)
     }
 }
 
-/* A permutation sends i to entries[i]. Entries past the length are ignored when it is lent, and zero when one is given. No function
- * takes or gives this struct: each takes the entries and the length, as p.entries and p.len, and gives them to two such places. */
+/* A permutation sends i to entries[i]. Entries past the length are zero: a permutation that is lent is refused with 10 where one is not, and
+ * those that are given are zero. So two of these structs that the functions accept hold the same permutation exactly if their bytes are the
+ * same, and memcmp over sizeof(gudrenoss_permutation) tells. No function takes or gives this struct: each takes the entries and the length,
+ * as p.entries and p.len, and gives them to two such places. */
 typedef struct gudrenoss_permutation {
     uint64_t entries[64];
     uint64_t len;
@@ -331,7 +333,8 @@ GUDRENOSS_MUST_USE gudrenoss_refusal gudrenoss_set_select(uint64_t set, uint64_t
 /* ---- Permutations ----------------------------------------------------------------------------------------------------------- */
 
 /* A permutation p is lent as its entries, an array of 64 places whatever the length, and its length n. A permutation that is given is
- * written to an array of 64 places, all of them, and its length to *len. Image, inverse, composition and sign take lengths up to 64;
+ * written to an array of 64 places, all of them, and its length to *len. The places past the length hold zeros: p is no permutation if one
+ * does not. Image, inverse, composition and sign take lengths up to 64;
  * those up to 20 are numbered. In order of rank the decreasing one is first and the identity last. */
 
 /* Where p sends i.

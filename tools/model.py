@@ -235,14 +235,26 @@ def select(bits, positions):
 
 # ---- permutations
 
-def permutation(*entries, longest=64):
-    refuse_if(any(len(p) > longest for p in entries), TOO_WIDE)
-    refuse_if(len({len(p) for p in entries}) > 1, SHAPE)
-    refuse_if(any(sorted(p) != list(range(len(p))) for p in entries), NOT_A_PERMUTATION)
+# A record is its length and its 64 entries. A list longer than that is a record of that length.
+
+PLACES = 64
 
 
-def perm_rank(p):
-    permutation(p, longest=20)
+def record(length, entries):
+    return length, (entries + [0] * PLACES)[:PLACES]
+
+
+def permutation(*records, longest=PLACES):
+    """The lists that the records are; of one record the list alone."""
+    refuse_if(any(n > longest for n, _ in records), TOO_WIDE)
+    refuse_if(len({n for n, _ in records}) > 1, SHAPE)
+    refuse_if(any(sorted(e[:n]) != list(range(n)) or any(e[n:]) for n, e in records), NOT_A_PERMUTATION)
+    lists = [e[:n] for n, e in records]
+    return lists if len(lists) > 1 else lists[0]
+
+
+def perm_rank(x):
+    p = permutation(x, longest=20)
     return sum(factorial(j) * sum(x < p[j] for x in p[:j]) for j in range(len(p)))
 
 
@@ -256,31 +268,30 @@ def perm_unrank(n, r):
     return p
 
 
-def perm_next(p):
-    r = perm_rank(p) + 1
-    refuse_if(r == factorial(len(p)), LAST)
-    return perm_unrank(len(p), r)
+def perm_next(x):
+    r = perm_rank(x) + 1
+    refuse_if(r == factorial(x[0]), LAST)
+    return perm_unrank(x[0], r)
 
 
-def perm_image(p, i):
-    permutation(p)
+def perm_image(x, i):
+    p = permutation(x)
     refuse_if(i >= len(p), OUTSIDE)
     return p[i]
 
 
-def perm_sign(p):
-    permutation(p)
-    return sign_of(p)
+def perm_sign(x):
+    return sign_of(permutation(x))
 
 
-def perm_inverse(p):
-    permutation(p)
+def perm_inverse(x):
+    p = permutation(x)
     return [p.index(i) for i in range(len(p))]
 
 
-def perm_compose(p, q):
-    permutation(p, q)
-    return [p[x] for x in q]
+def perm_compose(x, y):
+    p, q = permutation(x, y)
+    return [p[i] for i in q]
 
 
 # ---- shapes
@@ -400,7 +411,7 @@ def exp_add(room, x, y):
     return lend(room, [a + b for a, b in zip(x, y)])
 
 
-# ---- the requests: a pattern of the words after the verb (F a family, n a number, * a list, / itself), and the answer
+# ---- the requests: a pattern of the words after the verb (F a family, n a number, * a list, P a permutation, / itself), and the answer
 
 REQUESTS = {
     "count": ("F n n", lambda room, f, n, k: count(f, n, k)),
@@ -426,13 +437,13 @@ REQUESTS = {
     "contains": ("n n", lambda room, x, s: "yes" if s in set_of(x) else "no"),
     "position": ("n n", lambda room, x, s: position(x, s)),
     "select": ("n n", lambda room, x, p: select(x, p)),
-    "permrank": ("*", lambda room, p: perm_rank(p)),
-    "permsign": ("*", lambda room, p: perm_sign(p)),
-    "perminverse": ("*", lambda room, p: perm_inverse(p)),
-    "permnext": ("*", lambda room, p: perm_next(p)),
+    "permrank": ("P", lambda room, p: perm_rank(p)),
+    "permsign": ("P", lambda room, p: perm_sign(p)),
+    "perminverse": ("P", lambda room, p: perm_inverse(p)),
+    "permnext": ("P", lambda room, p: perm_next(p)),
     "permunrank": ("n n", lambda room, n, r: perm_unrank(n, r)),
-    "permimage": ("n / *", lambda room, i, p: perm_image(p, i)),
-    "permcompose": ("* / *", lambda room, p, q: perm_compose(p, q)),
+    "permimage": ("n / P", lambda room, i, p: perm_image(p, i)),
+    "permcompose": ("P / P", lambda room, p, q: perm_compose(p, q)),
     "shapecount": ("*", lambda room, r: shape_count(r)),
     "strides": ("*", lambda room, r: strides(room, r)),
     "linearize": ("* / *", lambda room, r, d: linearize(r, d)),
@@ -467,11 +478,13 @@ def number(word):
 def arguments(pattern, words):
     taken = []
     for part in pattern.split():
-        if part == "*":
+        if part in "*P":
             stop = words.index("/") if "/" in words else len(words)
-            if stop > MAX_LIST:
+            raw = part == "P" and words[:1] == ["raw"]
+            values = [number(w) for w in words[raw:stop]]
+            if len(values) > (PLACES + 1 if raw else MAX_LIST) or raw and not values:
                 raise Bad
-            taken.append([number(w) for w in words[:stop]])
+            taken.append(values if part == "*" else record(values[0], values[1:]) if raw else record(len(values), values))
             words = words[stop:]
             continue
         if not words:
@@ -556,7 +569,8 @@ def test():
                 assert exp_word(entries) == word and exp_from(n, n, word[::-1]) == entries
     for n in range(6):
         for r, p in enumerate(map(list, sorted(itertools.permutations(range(n)), key=lambda p: p[::-1]))):
-            assert perm_rank(p) == r and perm_unrank(n, r) == p and perm_compose(perm_inverse(p), p) == list(range(n))
+            x = record(n, p)
+            assert perm_rank(x) == r and perm_unrank(n, r) == p and perm_compose(record(n, perm_inverse(x)), x) == list(range(n))
     for radices in map(list, itertools.product(range(1, 5), repeat=3)):
         for x, digits in enumerate(itertools.product(*map(range, radices[::-1]))):
             assert linearize(radices, digits[::-1]) == x and delinearize(3, x, radices) == list(digits[::-1])

@@ -4,6 +4,7 @@
 #include <gudrenoss.h>
 
 #include <stdio.h>
+#include <string.h>
 
 enum { guard = 2, most = 70, numbers = 5 };
 
@@ -40,7 +41,7 @@ static int ins, checks, failed;
 #define IN(...) lend(LIST(__VA_ARGS__)), COUNT(__VA_ARGS__)
 #define EMPTY lent.in[0].place, 0
 #define P(...) permutation(LIST(__VA_ARGS__)), COUNT(__VA_ARGS__)
-#define RISING(len) rising_entries(), len
+#define RISING(len) rising_entries(len), len
 #define ENTRIES lent.out.place, X
 
 static const uint64_t top = UINT64_MAX, high_bit = (uint64_t)1 << 63, big = (uint64_t)1 << 40;
@@ -204,21 +205,21 @@ static void looks_entries(int line, gudrenoss_refusal back, const uint64_t *list
 #define entries(back, ...) looks_entries(__LINE__, back, LIST(__VA_ARGS__))
 #define no_entries(back) looks_entries(__LINE__, back, NULL, 0)
 
-/* Copies the entries of a permutation to the next place of lists that are read, with anything past its length. */
+/* Copies the entries of a permutation to the next place of lists that are read, with zeros past its length. */
 static const uint64_t *permutation(const uint64_t *list, size_t len)
 {
     uint64_t all[64];
     for (size_t i = 0; i < 64; i++)
-        all[i] = i < len ? list[i] : 1000 + i;
+        all[i] = i < len ? list[i] : 0;
     return lend(all, 64);
 }
 
-/* The entries 0, 1, 2, .. 63. */
-static const uint64_t *rising_entries(void)
+/* The entries 0, 1, 2, .. up to the length, then zeros. */
+static const uint64_t *rising_entries(uint64_t len)
 {
     uint64_t all[64];
     for (size_t i = 0; i < 64; i++)
-        all[i] = i;
+        all[i] = i < len ? i : 0;
     return lend(all, 64);
 }
 
@@ -675,8 +676,45 @@ static void test_longest_permutations(void)
     refused(gudrenoss_permutation_inverse(lend(falling, 64), 64, ENTRIES), NOT_A_PERMUTATION);
 }
 
+/* Anything but zeros past the length is refused, at the first place past it and at the last, and zeros are not. */
+static void test_past_the_length(void)
+{
+    const uint64_t zeros[64] = {0};
+    uint64_t entries[64] = {1, 0};
+    for (size_t past = 2; past < 64; past += past == 2 ? 18 : 43) {
+        entries[past] = 1;
+        refused(gudrenoss_permutation_image(lend(entries, 64), 2, 2, X), NOT_A_PERMUTATION);
+        refused(gudrenoss_permutation_inverse(lend(entries, 64), 2, ENTRIES), NOT_A_PERMUTATION);
+        refused(gudrenoss_permutation_compose(lend(entries, 64), 2, P(1, 0), ENTRIES), NOT_A_PERMUTATION);
+        refused(gudrenoss_permutation_compose(P(1, 0), lend(entries, 64), 2, ENTRIES), NOT_A_PERMUTATION);
+        refused(gudrenoss_permutation_compose(lend(entries, 64), 2, P(0), ENTRIES), SHAPE);
+        refused(gudrenoss_permutation_sign(lend(entries, 64), 2, FLAG), NOT_A_PERMUTATION);
+        refused(gudrenoss_permutation_rank(lend(entries, 64), 2, X), NOT_A_PERMUTATION);
+        refused(gudrenoss_permutation_successor(lend(entries, 64), 2, ENTRIES), NOT_A_PERMUTATION);
+        refused(gudrenoss_permutation_sign(lend(entries, 64), 65, FLAG), TOO_WIDE);
+        refused(gudrenoss_permutation_rank(lend(entries, 64), 21, X), TOO_WIDE);
+        entries[past] = 0;
+    }
+    flag(gudrenoss_permutation_sign(lend(entries, 64), 2, FLAG), minus);
+    flag(gudrenoss_permutation_sign(lend(zeros, 64), 0, FLAG), plus);
+    flag(gudrenoss_permutation_sign(lend(zeros, 64), 1, FLAG), plus);
+}
+
+/* Two ways to one permutation give the same bytes, and two permutations do not: (0) and the empty one differ in their length alone. */
+static void test_same_bytes(void)
+{
+    gudrenoss_permutation p = {{2, 0, 1}, 3}, back = {{1, 2, 3}, 9}, again = {{7, 7, 7}, 7}, none = {{0}, 0}, one = {{0}, 1};
+    check(__LINE__, gudrenoss_permutation_inverse(p.entries, p.len, back.entries, &back.len).number == GUDRENOSS_OK, "the inverse");
+    check(__LINE__, memcmp(&p, &back, sizeof p) != 0, "the bytes of a permutation and its inverse");
+    check(__LINE__, gudrenoss_permutation_inverse(back.entries, back.len, again.entries, &again.len).number == GUDRENOSS_OK, "the inverse");
+    check(__LINE__, memcmp(&p, &again, sizeof p) == 0, "the bytes of one permutation");
+    check(__LINE__, memcmp(&none, &one, sizeof none) != 0, "the bytes of two lengths");
+}
+
 static void test_permutations(void)
 {
+    test_past_the_length();
+    test_same_bytes();
     number(gudrenoss_permutation_image(P(2, 0, 1), 0, X), 2);
     number(gudrenoss_permutation_image(RISING(20), 19, X), 19);
     number(gudrenoss_permutation_image(RISING(64), 63, X), 63);

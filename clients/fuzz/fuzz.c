@@ -233,13 +233,18 @@ static void shuffle(uint64_t *places, size_t len)
         swap(&places[i - 1], &places[below(i)]);
 }
 
-/* A permutation: mostly a good one, with anything past its length. */
+/* A permutation: mostly a good one, sometimes with anything past its length, at all of the places or at one. */
 static gudrenoss_permutation permutation(uint64_t len)
 {
     gudrenoss_permutation p;
     for (size_t i = 0; i < 64; i++)
-        p.entries[i] = i < len ? i : number(64);
+        p.entries[i] = i < len ? i : 0;
     p.len = len;
+    if (len < 64 && below(16) == 0)
+        for (size_t i = len; i < 64; i++)
+            p.entries[i] = number(64);
+    if (len < 64 && below(16) == 0)
+        p.entries[len + below(64 - len)] = number(64);
     if (len <= 64 && below(16) != 0)
         shuffle(p.entries, len);
     if (len <= 64 && len > 1 && below(8) == 0)

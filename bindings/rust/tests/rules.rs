@@ -251,7 +251,7 @@ fn permutations_of_64() {
     let falling: Vec<u64> = (0..64).rev().collect();
     let rising: Vec<u64> = (0..64).collect();
     let p = Permutation::new_checked(&falling).unwrap();
-    assert_eq!(p.sign(), Ok(Sign::Plus));
+    assert_eq!(p.sign(), Ok(Sign::Pos));
     assert_eq!(p.inverse(), Ok(p));
     assert_eq!(p.compose(&p), Ok(Permutation::new(&rising)));
     assert_eq!(p.apply(63), Ok(0));
@@ -260,7 +260,7 @@ fn permutations_of_64() {
         let q = Permutation::new(&rising[..length]);
         assert_eq!(q.rank(), Err(Refusal::TooWide));
         assert_eq!(q.successor(), Err(Refusal::TooWide));
-        assert_eq!(q.sign(), Ok(Sign::Plus));
+        assert_eq!(q.sign(), Ok(Sign::Pos));
     }
 }
 

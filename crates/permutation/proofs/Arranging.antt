@@ -2,12 +2,12 @@
 --   word-of-record, record-holds    the record of a list holds that list
 --   arranges-refusal, arranges-given    what such an answer says, from how it was made
 --   arranged-is-whole    the record beside the verdict has all its entries, if no list that is given passes the capacity
-use mathlib.Core.Path.{_≡_, refl, ap, subst⁻¹, _∙_}
-use mathlib.Core.List.{List}
-use Prim.Native.Nat.{ℕ, _≤_}
+use mathlib.Core.Path.{_≡_, refl, ap, subst, subst⁻¹, _∙_}
+use mathlib.Core.List.{List, _++_}
+use Prim.Native.Nat.{ℕ, zero, suc, _+_, _-_, _≤_}
 use native.Mathlib.Omega.{arith}
-use lib.ListN.{length, drop, length-append, length-drop}
-use lib.Seq.{take-append-seam}
+use lib.ListN.{length, drop, getD, replicate, length-append, length-drop}
+use lib.Seq.{take-append-seam, getD-append-add, getD-drop}
 use Rattle.arrangements.specs.Permutation.{Permutation as IsPermutation}
 use Rattle.answers.specs.declared.Refusal.{Refusal}
 use Rattle.answers.specs.Says.{Says, refusesWith, gives, numberOf, carriedBy}
@@ -18,11 +18,24 @@ use Rattle.permutation.specs.Record.{capacity, zeros, wordOf, recordOf, 
 pub word-of-record : (w : List ℕ) → wordOf (recordOf w) ≡ w
 word-of-record w = take-append-seam w (drop (length w) zeros)
 
+zero-there : (m k : ℕ) → _≡_ {A = ℕ} (getD (replicate m 0) k 0) 0
+zero-there zero k = refl
+zero-there (suc m) zero = refl
+zero-there (suc m) (suc k) = zero-there m k
+
+-- past the list its record holds zeros
+zero-past : (w : List ℕ) (i : ℕ) → length w ≤ i → getD (w ++ drop (length w) zeros) i 0 ≡ 0
+zero-past w i h =
+    let back : length w + (i - length w) ≡ i = omega arith in
+    subst (λ (k : ℕ). getD (w ++ drop (length w) zeros) k 0 ≡ 0) back
+    (getD-append-add w (drop (length w) zeros) (i - length w) 0 ∙ getD-drop (length w) zeros (i - length w) 0 ∙ zero-there capacity (length w + (i - length w)))
+
 pub record-holds : (n : ℕ) (w : List ℕ) → IsPermutation n w → n ≤ capacity → Holds (recordOf w)
 record-holds n w p l =
     record {
       short = omega (arith, p .long);
       permutation = subst⁻¹ (IsPermutation (length w)) (word-of-record w) (subst⁻¹ (λ (m : ℕ). IsPermutation m w) (p .long) p);
+      past = zero-past w;
     }
 
 pub arranges-refusal : (s : Says (List ℕ)) (r : Arranged) (e : Refusal) → r ≡ refusal e → s ≡ refusesWith (numberOf e) (carriedBy e) → Arranges s r

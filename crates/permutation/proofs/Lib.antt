@@ -1,4 +1,5 @@
 pub mod Seen
+pub mod Past
 pub mod Taken
 pub mod Filled
 pub mod Arranging

@@ -1,7 +1,8 @@
 -- What image, inverse, composition and sign promise, over what the calls say (01, "Permutations"). Assumes nothing.
 --   taken-exactly, too-long-exactly, not-a-permutation-exactly    which records are taken, and why the others are refused
 --   Judged, judged    a record is too long, or holds no permutation, or holds one
---   past-the-length-is-ignored    what stands past the length does not matter
+--   past-the-length-is-refused    whatever stands past the length but 0 is refused with 10
+--   one-record    two records that are taken are equal exactly if they are the same permutation: of one length, and with the same image of every place
 --   given-is-taken    the record of a permutation is taken again
 --   image-exactly, outside-exactly    the image of a place, and 7
 --   composition-sends    p after q sends i to p(q(i))
@@ -10,6 +11,7 @@
 --   compose-with-inverse    the inverse composed with p, either way round, is the identity
 --   composition-is-associative    either way of composing three says the same
 --   inverse-gives-a-whole-record, compose-gives-a-whole-record    a record that is given has all its entries
+--   inverse-is-taken, composition-is-taken    and is taken by every call
 --   sign-of-composition, sign-of-inverse    the sign of a composition is the product of the signs; that of the inverse is the sign
 use mathlib.Core.Path.{_≡_, refl, sym, ap, ap₂, subst⁻¹, _∙_}
 use mathlib.Core.Logic.{_↔_}
@@ -20,11 +22,11 @@ use native.Mathlib.Decide.{decLe}
 use native.Mathlib.Omega.{arith}
 use borrow.Author.Tests.{ltb-true, ltb-false, le-ltb, leb-false, le-leb, lt-leb, eqb-true, eq-eqb, not-false}
 use lib.Dec.{leb, eqb}
-use lib.ListN.{length, getD, take}
+use lib.ListN.{length, getD}
+use lib.Seq.{ext-getD}
 use Rattle.words.specs.Word.{Below}
 use Rattle.words.specs.Inversions.{inversions, parity}
-use Rattle.arrangements.specs.Permutation.{Permutation as IsPermutation, isPermutation, identity, compose, inverse}
-use Rattle.arrangements.proofs.Places.{test-passes}
+use Rattle.arrangements.specs.Permutation.{Permutation as IsPermutation, identity, compose, inverse}
 use Rattle.arrangements.proofs.Group.{compose-at, compose-associative, compose-is-a-permutation, inverse-is-a-permutation, compose-inverse, inverse-compose}
 use Rattle.arrangements.proofs.Sign.{parity-of-compose, parity-of-inverse}
 use Rattle.answers.specs.declared.Sign.{Sign}
@@ -35,26 +37,26 @@ use Rattle.answers.proofs.Signs.{sign-of-parity, times-of-sum}
 use Rattle.permutation.specs.declared.Permutation.{Permutation}
 use Rattle.permutation.specs.declared.Arranged.{Arranged}
 use Rattle.permutation.specs.Record.{capacity, wordOf, recordOf, Whole, Holds, Agree, Arranges}
-use Rattle.permutation.specs.Rules.{tooLong, notAPermutation, taken, imageSays, inverseSays, composeSays, signSays}
-use Rattle.permutation.proofs.Taken.{taken-holds, holds-taken, tested-holds}
+use Rattle.permutation.specs.Rules.{tooLong, isGood, notAPermutation, taken, imageSays, inverseSays, composeSays, signSays}
+use Rattle.permutation.proofs.Taken.{word-at, tested-holds, holds-good, taken-holds, holds-taken}
 use Rattle.permutation.proofs.Arranging.{word-of-record, record-holds, arranged-is-whole}
 
 -- ---- the records that are taken
 
 pub data Judged (p : Permutation) : Type 0 where
   long : capacity < p .len → taken p ≡ refuses 1 → Judged p
-  broken : p .len ≤ capacity → (IsPermutation (p .len) (wordOf p) → ⊥) → taken p ≡ refuses 10 → Judged p
+  broken : p .len ≤ capacity → (Holds p → ⊥) → taken p ≡ refuses 10 → Judged p
   held : Holds p → taken p ≡ gives (wordOf p) → Judged p
 
 pub judged : (p : Permutation) → Whole p → Judged p
 unfolding taken
-judged p l = go (tooLong (p .len)) refl (isPermutation (wordOf p)) refl
+judged p l = go (tooLong (p .len)) refl (isGood (p .entries) (p .len)) refl
   where
-    go : (s : Bool) → tooLong (p .len) ≡ s → (t : Bool) → isPermutation (wordOf p) ≡ t → Judged p
+    go : (s : Bool) → tooLong (p .len) ≡ s → (t : Bool) → isGood (p .entries) (p .len) ≡ t → Judged p
     go true a t b = long (ltb-true capacity (p .len) a) (simp a)
     go false a true b = held (tested-holds p l (ltb-false capacity (p .len) a) b) (simp (a, b))
     go false a false b =
-        broken (ltb-false capacity (p .len) a) (λ h. true≢false (sym (test-passes (p .len) (wordOf p) h) ∙ b)) (simp (a, b))
+        broken (ltb-false capacity (p .len) a) (λ h. true≢false (sym (holds-good p h) ∙ b)) (simp (a, b))
 
 pub taken-exactly : (p : Permutation) → Whole p → (w : List ℕ) → (taken p ≡ gives w) ↔ (Holds p × (w ≡ wordOf p))
 taken-exactly p l w =
@@ -73,22 +75,21 @@ too-long-exactly p l = (λ e. to (judged p l) e, λ h. from (judged p l) h)
     from (broken h n t) g = absurd (omega arith)
     from (held h t) g = absurd (omega (arith, h .short))
 
-pub not-a-permutation-exactly : (p : Permutation) → Whole p → (taken p ≡ refuses 10) ↔ ((p .len ≤ capacity) × (IsPermutation (p .len) (wordOf p) → ⊥))
+pub not-a-permutation-exactly : (p : Permutation) → Whole p → (taken p ≡ refuses 10) ↔ ((p .len ≤ capacity) × (Holds p → ⊥))
 not-a-permutation-exactly p l = (λ e. to (judged p l) e, λ h. from (judged p l) h)
   where
-    to : Judged p → taken p ≡ refuses 10 → (p .len ≤ capacity) × (IsPermutation (p .len) (wordOf p) → ⊥)
+    to : Judged p → taken p ≡ refuses 10 → (p .len ≤ capacity) × (Holds p → ⊥)
     to (long h t) e = absurd (omega (arith, refuses-same (taken p) 1 10 t e))
     to (broken h n t) e = (h, n)
     to (held h t) e = absurd (gives-no-refusal (wordOf p) 10 (sym t ∙ e))
 
-    from : Judged p → (p .len ≤ capacity) × (IsPermutation (p .len) (wordOf p) → ⊥) → taken p ≡ refuses 10
+    from : Judged p → (p .len ≤ capacity) × (Holds p → ⊥) → taken p ≡ refuses 10
     from (long h t) g = absurd (omega (arith, g .0))
     from (broken h n t) g = t
-    from (held h t) g = absurd (g .1 (h .permutation))
+    from (held h t) g = absurd (g .1 h)
 
-pub past-the-length-is-ignored : (n : ℕ) (e f : List ℕ) → take n e ≡ take n f → taken (record { entries = e; len = n }) ≡ taken (record { entries = f; len = n })
-unfolding taken
-past-the-length-is-ignored n e f q = ap (λ (w : List ℕ). refusedIf (tooLong n) 1 (refusedIf (not (isPermutation w)) 10 (gives w))) q
+pub past-the-length-is-refused : (p : Permutation) → Whole p → p .len ≤ capacity → (i : ℕ) → p .len ≤ i → (getD (p .entries) i 0 ≡ 0 → ⊥) → taken p ≡ refuses 10
+past-the-length-is-refused p l h i past n = not-a-permutation-exactly p l .1 (h, λ holds. n (holds .past i past))
 
 pub given-is-taken : (n : ℕ) (w : List ℕ) → IsPermutation n w → n ≤ capacity → taken (recordOf w) ≡ gives w
 given-is-taken n w p l = taken-holds (recordOf w) (record-holds n w p l) ∙ ap gives (word-of-record w)
@@ -121,6 +122,35 @@ module _ (p : Permutation) (l : Whole p) (i : ℕ) where
           go (yes q) = q
           go (no q) = absurd (gives-no-refusal (getD (wordOf p) i 0) 7 (sym (image-exactly (getD (wordOf p) i 0) .1 (h, omega arith, refl)) ∙ e))
 
+-- ---- one record for one permutation
+
+module _ (p q : Permutation) (l : Whole p) (m : Whole q) (u v : List ℕ) (e : taken p ≡ gives u) (f : taken q ≡ gives v) where
+  left : Holds p
+  left = holds-taken p u l e
+
+  right : Holds q
+  right = holds-taken q v m f
+
+  -- the same image of a place, or nothing there in either
+  same-entry : p .len ≡ q .len → ((i : ℕ) → i < p .len → imageSays p i ≡ imageSays q i) → (i : ℕ) → getD (p .entries) i 0 ≡ getD (q .entries) i 0
+  same-entry n same i = go (decLe (p .len) i)
+    where
+      go : Dec (p .len ≤ i) → getD (p .entries) i 0 ≡ getD (q .entries) i 0
+      go (yes h) = left .past i h ∙ sym (right .past i (omega arith))
+      go (no h) =
+          sym (word-at p i (omega arith))
+          ∙ gives-same (getD (wordOf p) i 0) (getD (wordOf q) i 0)
+          (sym (image-exactly p l i (getD (wordOf p) i 0) .1 (left, omega arith, refl)) ∙ same i (omega arith)
+          ∙ image-exactly q m i (getD (wordOf q) i 0) .1 (right, omega arith, refl))
+          ∙ word-at q i (omega arith)
+
+  pub one-record : (p ≡ q) ↔ ((p .len ≡ q .len) × ((i : ℕ) → i < p .len → imageSays p i ≡ imageSays q i))
+  one-record = (
+    λ r. (ap (λ (x : Permutation). x .len) r, λ i h. ap (λ (x : Permutation). imageSays x i) r),
+    λ t. ap₂ (λ (es : List ℕ) (n : ℕ). record { entries = es; len = n })
+        (ext-getD 0 (p .entries) (q .entries) (l ∙ sym m) (λ i h. same-entry (t .0) (t .1) i)) (t .0),
+  )
+
 -- ---- composition
 
 compose-agree : (p q : Permutation) → Agree p q → composeSays p q ≡ gives (compose (wordOf p) (wordOf q))
@@ -129,8 +159,8 @@ compose-agree p q a =
       le-ltb capacity (p .len) (a .left .short),
       le-ltb capacity (q .len) (a .right .short),
       eq-eqb (p .len) (q .len) (a .lengths),
-      test-passes (p .len) (wordOf p) (a .left .permutation),
-      test-passes (q .len) (wordOf q) (a .right .permutation),
+      holds-good p (a .left),
+      holds-good q (a .right),
     )
 
 compose-given : (p q : Permutation) → Whole p → Whole q → (w : List ℕ) → composeSays p q ≡ gives w → Agree p q
@@ -141,8 +171,8 @@ compose-given p q l m w e =
     let d = passed (notAPermutation p) 10 _ w (c .1) in
     let f = passed (notAPermutation q) 10 (gives (compose (wordOf p) (wordOf q))) w (d .1) in
     record {
-      left = tested-holds p l (ltb-false capacity (p .len) (a .0)) (not-false (isPermutation (wordOf p)) (d .0));
-      right = tested-holds q m (ltb-false capacity (q .len) (b .0)) (not-false (isPermutation (wordOf q)) (f .0));
+      left = tested-holds p l (ltb-false capacity (p .len) (a .0)) (not-false (isGood (p .entries) (p .len)) (d .0));
+      right = tested-holds q m (ltb-false capacity (q .len) (b .0)) (not-false (isGood (q .entries) (q .len)) (f .0));
       lengths = eqb-true (p .len) (q .len) (not-false (eqb (p .len) (q .len)) (c .0));
     }
 
@@ -225,6 +255,12 @@ inverse-gives-a-whole-record p l r a =
 pub compose-gives-a-whole-record : (p q : Permutation) → Whole p → Whole q → (r : Arranged) → Arranges (composeSays p q) r → Whole (r .value)
 compose-gives-a-whole-record p q l m r a =
     arranged-is-whole (composeSays p q) r (λ w e. omega (arith, compose-given p q l m w e .left .short, composition-is-a-permutation p q l m w e .long)) a
+
+pub inverse-is-taken : (p : Permutation) → Whole p → (v : List ℕ) → inverseSays p ≡ gives v → taken (recordOf v) ≡ gives v
+inverse-is-taken p l v e = given-is-taken (p .len) v (inverse-of-a-permutation p l v e) (inverse-given p l v e .0 .short)
+
+pub composition-is-taken : (p q : Permutation) → Whole p → Whole q → (w : List ℕ) → composeSays p q ≡ gives w → taken (recordOf w) ≡ gives w
+composition-is-taken p q l m w e = given-is-taken (p .len) w (composition-is-a-permutation p q l m w e) (compose-given p q l m w e .left .short)
 
 -- ---- the sign
 

@@ -1,10 +1,11 @@
 -- The record of a permutation, and what each answer means in document 01's numbers. Assumes nothing.
 --   capacity    how many entries a record holds
---   wordOf p    the permutation as a list: the first len entries; what stands past them is ignored
+--   wordOf p    the permutation as a list: the first len entries
 --   zeros    a record's entries, all 0
+--   zerosOnly w    nothing but zeros stands in w
 --   recordOf w    the record of a list: zeros past its length
 --   Whole p    the record has all its entries, as each of a program has
---   Holds p    the record holds a permutation, not longer than the capacity
+--   Holds p    the record holds a permutation, not longer than the capacity, and nothing but zeros past it
 --   Agree p q    both do, and they have one length
 --   verdictSays v a    what a verdict means that stands beside the value a
 --   signsSays, arrangedSays    what each case of an answer means
@@ -12,9 +13,12 @@
 --   refusal e, giving p    the answers that refuse, and that give a record
 --   Arranges s r    the answer r says s, and holds the record that belongs to it
 use mathlib.Core.Path.{_≡_}
-use mathlib.Core.List.{List, [], _++_}
+use mathlib.Core.Bool.{Bool, true, false}
+use mathlib.Core.List.{List, [], _∷_, _++_}
 use Prim.Native.Nat.{ℕ, _≤_}
-use lib.ListN.{length, take, drop, replicate}
+use lib.Dec.{eqb}
+use lib.ListN.{length, take, drop, getD, replicate}
+use Rattle.words.specs.Pick.{pick}
 use Rattle.arrangements.specs.Permutation.{Permutation as IsPermutation}
 use Rattle.answers.specs.declared.Refusal.{Refusal}
 use Rattle.answers.specs.declared.Sign.{Sign}
@@ -35,6 +39,10 @@ wordOf p = take (p .len) (p .entries)
 abbrev pub zeros : List ℕ
 zeros = replicate capacity 0
 
+unfoldable pub zerosOnly : List ℕ → Bool
+zerosOnly [] = true
+zerosOnly (x ∷ w) = pick (eqb x 0) (zerosOnly w) false
+
 abbrev pub recordOf : List ℕ → Permutation
 recordOf w = record { entries = w ++ drop (length w) zeros; len = length w }
 
@@ -44,6 +52,7 @@ Whole p = length (p .entries) ≡ capacity
 pub record Holds (p : Permutation) : Type 0 where
   pub short : p .len ≤ capacity
   pub permutation : IsPermutation (p .len) (wordOf p)
+  pub past : (i : ℕ) → p .len ≤ i → getD (p .entries) i 0 ≡ 0
 
 pub record Agree (p q : Permutation) : Type 0 where
   pub left : Holds p

@@ -1,27 +1,32 @@
 -- What each call answers, for all inputs: the checks of document 01 in their order, and then the value (01, "Permutations" and the lines of refusals).
 -- Assumes nothing.
 --   tooLong n    a length that passes the capacity: 1
---   taken p    the permutation that a record holds: 1 for its length, 10 if it is no bijection of 0 .. n-1
+--   isGood e n    the first n entries are a bijection of 0 .. n-1, and the others are 0
+--   taken p    the permutation that a record holds: 1 for its length, 10 if it is not good
 --   imageSays p i, inverseSays p, composeSays p q, signSays p
-use mathlib.Core.Bool.{Bool, not}
+use mathlib.Core.Bool.{Bool, false, not}
 use mathlib.Core.List.{List}
 use Prim.Native.Nat.{ℕ}
 use lib.Dec.{leb, ltb, eqb}
-use lib.ListN.{getD}
+use lib.ListN.{take, drop, getD}
+use Rattle.words.specs.Pick.{pick}
 use Rattle.words.specs.Inversions.{inversions}
 use Rattle.arrangements.specs.Permutation.{isPermutation, compose, inverse}
 use Rattle.answers.specs.declared.Sign.{Sign}
 use Rattle.answers.specs.Says.{Says, gives, refusedIf, andThen}
 use Rattle.answers.specs.Signs.{signOf}
 use Rattle.permutation.specs.declared.Permutation.{Permutation}
-use Rattle.permutation.specs.Record.{capacity, wordOf}
+use Rattle.permutation.specs.Record.{capacity, zerosOnly, wordOf}
 
 abbrev pub tooLong : ℕ → Bool
 tooLong n = ltb capacity n
 
 -- the one place where it is said which records are permutations
+unfoldable pub isGood : List ℕ → ℕ → Bool
+isGood e n = pick (isPermutation (take n e)) (zerosOnly (drop n e)) false
+
 abbrev pub notAPermutation : Permutation → Bool
-notAPermutation p = not (isPermutation (wordOf p))
+notAPermutation p = not (isGood (p .entries) (p .len))
 
 unfoldable pub taken : Permutation → Says (List ℕ)
 taken p = refusedIf (tooLong (p .len)) 1 (refusedIf (notAPermutation p) 10 (gives (wordOf p)))

@@ -1,14 +1,14 @@
-// Permutations of up to 64 entries: image, inverse, composition and sign (document 01, "Permutations"; document 02, section 7). Rank and order, which end at
-// twenty entries, are `permutation_order`'s.
+// Permutations of up to 64 entries: image, inverse, composition and sign (document 01, "Permutations"; document 02, sections 6 and 7). Rank and order, which
+// end at twenty entries, are `permutation_order`'s.
 ghost use mathlib.Core.Path.{_≡_};
 ghost use Prim.Native.Nat.{_≤_};
-ghost use lib.ListN.{length, take};
+ghost use lib.ListN.{length, take, drop};
 ghost use lib.Seq.{slice};
 ghost use Rattle.words.specs.Inversions.{smallerIn, inversions as inversionsOf};
 ghost use Rattle.answers.specs.Says.{answerSays};
 ghost use Rattle.arrangements.specs.Permutation.{isPermutation, compose as composeOf, inverse as inverseOf};
-ghost use Rattle.permutation.specs.Record.{capacity, wordOf, recordOf, Holds, Agree, verdictSays, signsSays, refusal, giving, Arranges};
-ghost use Rattle.permutation.specs.Rules.{taken, imageSays, inverseSays, composeSays, signSays};
+ghost use Rattle.permutation.specs.Record.{capacity, zerosOnly, wordOf, recordOf, Holds, Agree, verdictSays, signsSays, refusal, giving, Arranges};
+ghost use Rattle.permutation.specs.Rules.{isGood, taken, imageSays, inverseSays, composeSays, signSays};
 use answers::Answer;
 use answers::Refusal;
 use answers::Sign;
@@ -16,7 +16,7 @@ use answers::Sign;
 // How many entries a record holds, and so the greatest length.
 pub const CAPACITY: usize = 64;
 
-// A permutation of len entries: the image of place i is entries[i]. What stands past the length is ignored when taken, and zero when given.
+// A permutation of len entries: the image of place i is entries[i]. Past the length stand zeros, so that a permutation has one record.
 #[repr(C)]
 pub struct Permutation {
     pub entries: [u64; CAPACITY],
@@ -41,7 +41,7 @@ pub struct Arranged {
     pub value: Permutation,
 }
 
-// Whether the first n entries are a bijection of 0 .. n-1. It is judged here and nowhere else.
+// Whether the first n entries are a bijection of 0 .. n-1.
 fn is_permutation(entries: &[u64; CAPACITY], n: u64) -> bool
     requires { ⌜ (n ≤ capacity) × (length (now entries) ≡ capacity) ⌝ }
     ensures { λ r. ⌜ r ≡ isPermutation (take n (now (entries .entry))) ⌝ }
@@ -60,6 +60,29 @@ fn is_permutation(entries: &[u64; CAPACITY], n: u64) -> bool
         i += 1;
     }
     true
+}
+
+// Whether nothing but zeros stands past the first n entries.
+fn nothing_past(entries: &[u64; CAPACITY], n: u64) -> bool
+    requires { ⌜ (n ≤ capacity) × (length (now entries) ≡ capacity) ⌝ }
+    ensures { λ r. ⌜ r ≡ zerosOnly (drop n (now (entries .entry))) ⌝ }
+{
+    let zeros = smaller(entries, n, CAPACITY as u64, 1);
+    if zeros == CAPACITY as u64 - n {
+        return true;
+    }
+    false
+}
+
+// Whether these entries with the length n are the record of a permutation. It is judged here and nowhere else.
+fn is_good(entries: &[u64; CAPACITY], n: u64) -> bool
+    requires { ⌜ (n ≤ capacity) × (length (now entries) ≡ capacity) ⌝ }
+    ensures { λ r. ⌜ r ≡ isGood (now (entries .entry)) n ⌝ }
+{
+    if !is_permutation(entries, n) {
+        return false;
+    }
+    nothing_past(entries, n)
 }
 
 // The answer that refuses: beside it stands the empty permutation.
@@ -86,7 +109,7 @@ pub fn given(p: Permutation) -> Arranged
     }
 }
 
-// 1 if the length passes the capacity, 10 if it is no permutation.
+// 1 if the length passes the capacity, 10 if it is not the record of a permutation.
 pub fn checked(p: Permutation) -> Verdict
     ensures { λ r. ⌜ verdictSays r (wordOf p) ≡ taken p ⌝ }
 {
@@ -95,7 +118,7 @@ pub fn checked(p: Permutation) -> Verdict
         return Verdict::Refused(Refusal::TooWide);
     }
     let entries = p.entries;
-    if is_permutation(&entries, n) {
+    if is_good(&entries, n) {
         return Verdict::Given;
     }
     Verdict::Refused(Refusal::NotAPermutation)
@@ -181,11 +204,11 @@ pub fn compose(p: Permutation, q: Permutation) -> Arranged
         return refused(Refusal::Shape);
     }
     let left = p.entries;
-    if !is_permutation(&left, n) {
+    if !is_good(&left, n) {
         return refused(Refusal::NotAPermutation);
     }
     let right = q.entries;
-    if !is_permutation(&right, m) {
+    if !is_good(&right, m) {
         return refused(Refusal::NotAPermutation);
     }
     given(composed(p, q))

@@ -1,7 +1,7 @@
 -- What rank, unrank and successor promise, over what the calls say (01, "Permutations"; Knuth 7.2.1.2). Assumes nothing.
 --   rank-exactly    which records are ranked, and to what
 --   rank-tells-how-many-earlier    the rank is how many permutations of that length are earlier in colex order
---   rank-ignores-the-past    it does not depend on what the record holds past its length
+--   rank-refuses-the-past    10 if anything but 0 stands past the length
 --   unnumbered-exactly    1 exactly if the length is above those that are numbered
 --   unrank-exactly    unranking gives exactly the permutation of that length and rank
 --   no-such-rank-exactly    3 exactly if the rank is not below n!, which is how many permutations there are
@@ -11,6 +11,7 @@
 --   successor-is-next    it is later, and nothing lies between
 --   last-exactly    4 exactly at the identity
 --   unrank-gives-a-whole-record, successor-gives-a-whole-record    a record that is given has all its entries
+--   unranked-is-taken, successor-is-taken    and is taken by every call
 use mathlib.Core.Path.{_≡_, refl, sym, ap, subst, subst⁻¹, _∙_}
 use mathlib.Core.Logic.{_↔_}
 use mathlib.Core.Bool.{Bool, true, false}
@@ -20,7 +21,7 @@ use native.Mathlib.Decide.{decLe}
 use native.Mathlib.Omega.{arith}
 use borrow.Author.Tests.{ltb-true, ltb-false, lt-ltb, le-ltb, leb-true, leb-false, le-leb, lt-leb}
 use lib.Dec.{leb}
-use lib.ListN.{take}
+use lib.ListN.{getD}
 use Rattle.words.specs.Colex.{ColexLt}
 use Rattle.words.specs.Factorial.{factorial}
 use Rattle.words.specs.HowMany.{HowMany}
@@ -31,14 +32,14 @@ use Rattle.arrangements.proofs.Counted.{rank-is-below, rank-is-how-many-earlier
 use Rattle.arrangements.proofs.Ends.{descending-is-a-permutation, descending-rank, identity-rank, last-is-identity}
 use Rattle.arrangements.proofs.Group.{identity-is-a-permutation}
 use Rattle.arrangements.proofs.Next.{next-is-later, nothing-between}
-use Rattle.answers.specs.Says.{Says, refuses, gives, refusedIf, andThen}
+use Rattle.answers.specs.Says.{refuses, gives, refusedIf}
 use Rattle.answers.proofs.Says.{gives-same, refuses-same, gives-no-refusal, passed, then-gave}
 use Rattle.permutation.specs.declared.Permutation.{Permutation}
 use Rattle.permutation.specs.declared.Arranged.{Arranged}
 use Rattle.permutation.specs.Record.{wordOf, recordOf, Whole, Arranges}
 use Rattle.permutation.specs.Rules.{taken}
 use Rattle.permutation.proofs.Arranging.{word-of-record, record-holds, arranged-is-whole}
-use Rattle.permutation.proofs.Promises.{Judged, long, broken, held, judged, too-long-exactly, past-the-length-is-ignored}
+use Rattle.permutation.proofs.Promises.{Judged, long, broken, held, judged, too-long-exactly, past-the-length-is-refused, given-is-taken}
 use Rattle.permutation_order.specs.Rules.{longest, unnumbered, numbered, Ordered, rankSays, unrankSays, successorSays}
 use Rattle.permutation_order.proofs.Numbering.{ordered-numbered, numbered-ordered}
 
@@ -61,9 +62,9 @@ rank-tells-how-many-earlier p l r e =
     let t = rank-exactly p l r .0 e in
     subst⁻¹ (HowMany (λ (u : List ℕ). IsPermutation (p .len) u × ColexLt u (wordOf p))) (t .1) (rank-is-how-many-earlier (p .len) (wordOf p) (t .0 .holds .permutation))
 
-pub rank-ignores-the-past : (n : ℕ) (e f : List ℕ) → take n e ≡ take n f → rankSays (record { entries = e; len = n }) ≡ rankSays (record { entries = f; len = n })
+pub rank-refuses-the-past : (p : Permutation) → Whole p → p .len ≤ longest → (i : ℕ) → p .len ≤ i → (getD (p .entries) i 0 ≡ 0 → ⊥) → rankSays p ≡ refuses 10
 unfolding numbered
-rank-ignores-the-past n e f q = ap (λ (s : Says (List ℕ)). andThen (refusedIf (unnumbered n) 1 s) (λ w. gives (rankOf w))) (past-the-length-is-ignored n e f q)
+rank-refuses-the-past p l h i past n = simp (le-ltb longest (p .len) h, past-the-length-is-refused p l (omega arith) i past n)
 
 pub unnumbered-exactly : (p : Permutation) → Whole p → (numbered p ≡ refuses 1) ↔ (longest < p .len)
 unfolding numbered
@@ -194,3 +195,9 @@ unrank-gives-a-whole-record n r a h =
 pub successor-gives-a-whole-record : (p : Permutation) → Whole p → (r : Arranged) → Arranges (successorSays p) r → Whole (r .value)
 successor-gives-a-whole-record p l r h =
     arranged-is-whole (successorSays p) r (λ w e. let t = successor-exactly p l w .0 e in omega (arith, t .0 .holds .short, t .1 .long)) h
+
+pub unranked-is-taken : (n r : ℕ) (w : List ℕ) → unrankSays n r ≡ gives w → taken (recordOf w) ≡ gives w
+unranked-is-taken n r w e = let t = unrank-exactly n r w .0 e in given-is-taken n w (t .1) (omega (arith, t .0))
+
+pub successor-is-taken : (p : Permutation) → Whole p → (w : List ℕ) → successorSays p ≡ gives w → taken (recordOf w) ≡ gives w
+successor-is-taken p l w e = let t = successor-exactly p l w .0 e in given-is-taken (p .len) w (t .1) (t .0 .holds .short)

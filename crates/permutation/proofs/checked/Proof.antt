@@ -10,16 +10,16 @@ returns : tie.Need-returns
 unfolding taken
 returns c = simp (lt-ltb _ _ (c .if1 .taken))
 
-is-permutation-requires : tie.Need-is-permutation-requires
-is-permutation-requires c κs = search needs
+is-good-requires : tie.Need-is-good-requires
+is-good-requires c κs = search needs
 
 returns-2 : tie.Need-returns-2
 unfolding taken
-returns-2 c = simp (le-ltb _ _ (c .before .before .before .before .if1 .left), sym (c .before .is-permutation .ensures) ∙ c .if2 .taken)
+returns-2 c = simp (le-ltb _ _ (c .before .before .before .before .if1 .left), sym (c .before .is-good .ensures) ∙ c .if2 .taken)
 
 returns-3 : tie.Need-returns-3
 unfolding taken
-returns-3 c = simp (le-ltb _ _ (c .before .before .before .before .if1 .left), sym (c .before .is-permutation .ensures) ∙ c .if2 .left)
+returns-3 c = simp (le-ltb _ _ (c .before .before .before .before .if1 .left), sym (c .before .is-good .ensures) ∙ c .if2 .left)
 
 pub checked-spec : {M : Type 1} → statement M
-checked-spec = tie.close (tie.spec returns is-permutation-requires returns-2 returns-3)
+checked-spec = tie.close (tie.spec returns is-good-requires returns-2 returns-3)

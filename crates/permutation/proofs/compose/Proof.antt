@@ -27,8 +27,8 @@ refused-requires-3 c κs = search needs
 returns-3 : tie.Need-returns-3
 returns-3 c = arranges-refusal _ _ _ (c .refused3 .ensures) (simp (le-ltb _ _ (c .before .before .before .if1 .left), le-ltb _ _ (c .before .before .if2 .left), ne-eqb _ _ (c .before .if3 .taken)))
 
-is-permutation-requires : tie.Need-is-permutation-requires
-is-permutation-requires c κs = search needs
+is-good-requires : tie.Need-is-good-requires
+is-good-requires c κs = search needs
 
 refused-requires-4 : tie.Need-refused-requires-4
 refused-requires-4 c κs = search needs
@@ -40,11 +40,11 @@ returns-4 c =
       le-ltb _ _ (c .before .before .before .before .before .before .before .if1 .left),
       le-ltb _ _ (c .before .before .before .before .before .before .if2 .left),
       eq-eqb _ _ (c .before .before .before .before .before .if3 .left),
-      sym (c .before .before .is-permutation .ensures) ∙ not-true _ (c .before .if4 .taken),
+      sym (c .before .before .is-good .ensures) ∙ not-true _ (c .before .if4 .taken),
     ))
 
-is-permutation-requires-2 : tie.Need-is-permutation-requires-2
-is-permutation-requires-2 c κs = search needs
+is-good-requires-2 : tie.Need-is-good-requires-2
+is-good-requires-2 c κs = search needs
 
 refused-requires-5 : tie.Need-refused-requires-5
 refused-requires-5 c κs = search needs
@@ -56,8 +56,8 @@ returns-5 c =
       le-ltb _ _ (c .before .before .before .before .before .before .before .before .before .before .before .if1 .left),
       le-ltb _ _ (c .before .before .before .before .before .before .before .before .before .before .if2 .left),
       eq-eqb _ _ (c .before .before .before .before .before .before .before .before .before .if3 .left),
-      sym (c .before .before .before .before .before .before .is-permutation .ensures) ∙ not-false _ (c .before .before .before .before .before .if4 .left),
-      sym (c .before .before .is-permutation2 .ensures) ∙ not-true _ (c .before .if5 .taken),
+      sym (c .before .before .before .before .before .before .is-good .ensures) ∙ not-false _ (c .before .before .before .before .before .if4 .left),
+      sym (c .before .before .is-good2 .ensures) ∙ not-true _ (c .before .if5 .taken),
     ))
 
 composed-requires : tie.Need-composed-requires
@@ -66,9 +66,9 @@ composed-requires c κs =
     record {
       left =
           tested-holds (s .args .p) (search needs) (c .before .before .before .before .before .before .before .before .before .before .if1 .left)
-          (sym (c .before .before .before .before .before .is-permutation .ensures) ∙ not-false _ (c .before .before .before .before .if4 .left));
+          (sym (c .before .before .before .before .before .is-good .ensures) ∙ not-false _ (c .before .before .before .before .if4 .left));
       right =
-          tested-holds (s .args .q) (search needs) (c .before .before .before .before .before .before .before .before .before .if2 .left) (sym (c .before .is-permutation2 .ensures) ∙ not-false _ (c .if5 .left));
+          tested-holds (s .args .q) (search needs) (c .before .before .before .before .before .before .before .before .before .if2 .left) (sym (c .before .is-good2 .ensures) ∙ not-false _ (c .if5 .left));
       lengths = c .before .before .before .before .before .before .before .before .if3 .left;
     }
 
@@ -83,8 +83,8 @@ returns-6 c =
       le-ltb _ _ (c .before .before .before .before .before .before .before .before .before .before .before .before .if1 .left),
       le-ltb _ _ (c .before .before .before .before .before .before .before .before .before .before .before .if2 .left),
       eq-eqb _ _ (c .before .before .before .before .before .before .before .before .before .before .if3 .left),
-      sym (c .before .before .before .before .before .before .before .is-permutation .ensures) ∙ not-false _ (c .before .before .before .before .before .before .if4 .left),
-      sym (c .before .before .before .is-permutation2 .ensures) ∙ not-false _ (c .before .before .if5 .left),
+      sym (c .before .before .before .before .before .before .before .is-good .ensures) ∙ not-false _ (c .before .before .before .before .before .before .if4 .left),
+      sym (c .before .before .before .is-good2 .ensures) ∙ not-false _ (c .before .before .if5 .left),
     ))
 
 pub compose-spec : {M : Type 1} → statement M
@@ -97,10 +97,10 @@ compose-spec =
     returns-2
     refused-requires-3
     returns-3
-    is-permutation-requires
+    is-good-requires
     refused-requires-4
     returns-4
-    is-permutation-requires-2
+    is-good-requires-2
     refused-requires-5
     returns-5
     composed-requires

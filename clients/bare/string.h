@@ -1,0 +1,6 @@
+/* For the kit's compiler, which brings no headers: what the clients use of this one, on x86-64 Linux. */
+#ifndef BARE_STRING_H
+#define BARE_STRING_H
+#include <stddef.h>
+int memcmp(const void *a, const void *b, size_t len);
+#endif
