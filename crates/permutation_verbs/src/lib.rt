@@ -1,5 +1,6 @@
 // The requests on permutations (docs/RULES.md, section 13; document 01, "Permutations"), each answered by a call of the library. A list
-// longer than a record holds stands for a permutation of that length, which every call refuses by 1.
+// longer than a record holds stands for a permutation of that length, which every call refuses by 1; `raw`, a length and entries for a record
+// of any length and entries.
 ghost use Prim.Native.Nat.{_≤_};
 ghost use Rattle.permutation.specs.Record.{capacity};
 use answers::Answer;
@@ -19,8 +20,8 @@ fn held(n: usize) -> usize
     CAPACITY
 }
 
-// The record of a list: its entries as far as the record holds them, and its length.
-fn record(list: &[u64]) -> Permutation {
+// The record of entries, as far as it holds them, and a length.
+fn record(list: &[u64], len: u64) -> Permutation {
     let mut entries = [0u64; CAPACITY];
     let n = held(list.len());
     let mut i = 0;
@@ -28,10 +29,31 @@ fn record(list: &[u64]) -> Permutation {
         entries[i] = list[i];
         i += 1;
     }
-    Permutation {
-        entries,
-        len: list.len() as u64,
+    Permutation { entries, len }
+}
+
+// Whether the word at place i is raw.
+fn is_raw(kinds: &[u8], i: usize) -> bool {
+    if i < kinds.len() {
+        return kinds[i] == b'r';
     }
+    false
+}
+
+// Whether the word after the `/`, whose place is given, is raw.
+fn is_raw_after(kinds: &[u8], slash: usize) -> bool {
+    if slash < kinds.len() {
+        return is_raw(kinds, slash + 1);
+    }
+    false
+}
+
+// The record that the words of a permutation stand for: a list, or after the word raw the length and the entries.
+fn operand(raw: bool, list: &[u64]) -> Permutation {
+    if raw {
+        return record(requests::list(list, 2), requests::number(list, 1));
+    }
+    record(list, list.len() as u64)
 }
 
 // Writes the entries of a record into the first places.
@@ -60,16 +82,16 @@ fn give(a: Arranged, places: &mut [u64]) -> Reply {
 
 // The requests that are answered by a number or a sign.
 fn of_record(verb: &[u8], kinds: &[u8], values: &[u64]) -> Reply {
-    if requests::asks(verb, kinds, b"permrank *") {
-        let p = record(requests::list(values, 0));
+    if requests::asks(verb, kinds, b"permrank P") {
+        let p = operand(is_raw(kinds, 0), requests::list(values, 0));
         return Reply::Number(permutation_order::rank(p));
     }
-    if requests::asks(verb, kinds, b"permsign *") {
-        let p = record(requests::list(values, 0));
+    if requests::asks(verb, kinds, b"permsign P") {
+        let p = operand(is_raw(kinds, 0), requests::list(values, 0));
         return Reply::Sign(permutation::sign(p));
     }
-    if requests::asks(verb, kinds, b"permimage n/*") {
-        let p = record(requests::list(values, 2));
+    if requests::asks(verb, kinds, b"permimage n/P") {
+        let p = operand(is_raw(kinds, 2), requests::list(values, 2));
         return Reply::Number(permutation::image(p, requests::number(values, 0)));
     }
     Reply::Bad
@@ -77,12 +99,12 @@ fn of_record(verb: &[u8], kinds: &[u8], values: &[u64]) -> Reply {
 
 // The requests that are answered by a permutation.
 fn arranged(verb: &[u8], kinds: &[u8], values: &[u64], places: &mut [u64]) -> Reply {
-    if requests::asks(verb, kinds, b"perminverse *") {
-        let p = record(requests::list(values, 0));
+    if requests::asks(verb, kinds, b"perminverse P") {
+        let p = operand(is_raw(kinds, 0), requests::list(values, 0));
         return give(permutation::inverse(p), places);
     }
-    if requests::asks(verb, kinds, b"permnext *") {
-        let p = record(requests::list(values, 0));
+    if requests::asks(verb, kinds, b"permnext P") {
+        let p = operand(is_raw(kinds, 0), requests::list(values, 0));
         return give(permutation_order::successor(p), places);
     }
     if requests::asks(verb, kinds, b"permunrank nn") {
@@ -90,10 +112,13 @@ fn arranged(verb: &[u8], kinds: &[u8], values: &[u64], places: &mut [u64]) -> Re
         let r = requests::number(values, 1);
         return give(permutation_order::unrank(n, r), places);
     }
-    if requests::asks(verb, kinds, b"permcompose */*") {
+    if requests::asks(verb, kinds, b"permcompose P/P") {
         let slash = requests::slash(kinds);
-        let p = record(requests::list_before(values, slash));
-        let q = record(requests::list_after(values, slash));
+        let p = operand(is_raw(kinds, 0), requests::list_before(values, slash));
+        let q = operand(
+            is_raw_after(kinds, slash),
+            requests::list_after(values, slash),
+        );
         return give(permutation::compose(p, q), places);
     }
     Reply::Bad

@@ -1,5 +1,5 @@
 // A request (docs/RULES.md, section 13), taken apart once: the words after its verb, each with a byte for its kind and its value.
-// The kinds: n a number, f and a the families, / itself, h and w the places of a walk (here, nowhere).
+// The kinds: n a number, f and a the families, / itself, h and w the places of a walk (here, nowhere), r the word raw.
 ghost use Prim.Native.Nat.{_<_};
 ghost use lib.ListN.{length};
 ghost use Rattle.requests.specs.Bounds.{VerbWithin, WordsWithin};
@@ -65,6 +65,9 @@ fn kind(word: &[u8]) -> u8 {
     if check::same(word, b"nowhere") {
         return b'w';
     }
+    if check::same(word, b"raw") {
+        return b'r';
+    }
     0
 }
 
@@ -108,10 +111,10 @@ pub fn words(line: &[u8], from: usize, kinds: &mut [u8], values: &mut [u64]) -> 
     Rest::Words(n)
 }
 
-// The place after the numbers from place i on, of which a list has 80 at most.
-fn after_list(kinds: &[u8], i: usize) -> usize {
+// The place after the numbers from place i on, of which a list has so many at most.
+fn after_list(kinds: &[u8], i: usize, most: u64) -> usize {
     let mut to = i;
-    let mut left = 80u64;
+    let mut left = most;
     while to < kinds.len() {
         if left == 0 {
             return to;
@@ -123,6 +126,22 @@ fn after_list(kinds: &[u8], i: usize) -> usize {
         left -= 1;
     }
     to
+}
+
+// The place after a permutation at place i: a list, or `raw`, a length and up to 64 entries, as many as a record has.
+fn after_permutation(kinds: &[u8], i: usize) -> usize {
+    if i < kinds.len() {
+        if kinds[i] == b'r' {
+            let length = i + 1;
+            if length < kinds.len() {
+                if kinds[length] == b'n' {
+                    return after_list(kinds, length + 1, 64);
+                }
+            }
+            return kinds.len() + 1;
+        }
+    }
+    after_list(kinds, i, 80)
 }
 
 // Whether a word of this kind stands for a letter of a pattern: F for a family, and itself otherwise.
@@ -139,7 +158,10 @@ fn stands(kind: u8, letter: u8) -> bool {
 // The place after what a letter of a pattern stands for at place i, or a place past the end if that is not there.
 fn after(kinds: &[u8], i: usize, letter: u8) -> usize {
     if letter == b'*' {
-        return after_list(kinds, i);
+        return after_list(kinds, i, 80);
+    }
+    if letter == b'P' {
+        return after_permutation(kinds, i);
     }
     if i < kinds.len() {
         if stands(kinds[i], letter) {
@@ -149,7 +171,7 @@ fn after(kinds: &[u8], i: usize, letter: u8) -> usize {
     kinds.len() + 1
 }
 
-// Whether the words are those of a pattern: F a family, n a number, * a list of numbers, any other kind itself.
+// Whether the words are those of a pattern: F a family, n a number, * a list of numbers, P a permutation, any other kind itself.
 fn fits(kinds: &[u8], pattern: &[u8]) -> bool {
     let mut i = 0;
     let mut j = 0;

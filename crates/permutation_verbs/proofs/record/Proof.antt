@@ -7,10 +7,10 @@ use Rattle.permutation_verbs.proofs.record.Statement.{statement}
 use Rattle.permutation_verbs.proofs.record.Tie as tie
 
 abbrev Inv-loop : tie.InvT-loop
-Inv-loop list entries₀ n i₀ entries i = (i ≤ n) × (n ≤ length list) × (n ≤ capacity)
+Inv-loop list len entries₀ n i₀ entries i = (i ≤ n) × (n ≤ length list) × (n ≤ capacity)
 
 abbrev μ-loop : tie.MeasureT-loop
-μ-loop list entries₀ n i₀ entries i = n - i
+μ-loop list len entries₀ n i₀ entries i = n - i
 
 held-requires : tie.Need-held-requires Inv-loop μ-loop
 held-requires c κs = search needs

@@ -6,10 +6,10 @@ use Rattle.requests.proofs.after_list.Statement.{statement}
 use Rattle.requests.proofs.after_list.Tie as tie
 
 abbrev Inv-loop : tie.InvT-loop
-Inv-loop kinds i to₀ left₀ to left = Unit {0}
+Inv-loop kinds i most to₀ left₀ to left = Unit {0}
 
 abbrev μ-loop : tie.MeasureT-loop
-μ-loop kinds i to₀ left₀ to left = length kinds - to
+μ-loop kinds i most to₀ left₀ to left = length kinds - to
 
 loop-holds : tie.Need-loop-holds Inv-loop μ-loop
 loop-holds c = search needs
