@@ -3,6 +3,7 @@
 // this side tests and the original, which has none, does not look at.
 //
 //   sample     two hundred thousand numbers with so many ones, from a fixed seed
+//   drawn      two hundred thousand ranks below a number, drawn evenly, from a fixed seed
 //   race       the least time of each side over a number of rounds, in turns, after both gave the same answers
 
 use multiindex::{Combination, MonoIndex, Repetition};
@@ -29,6 +30,8 @@ unsafe extern "C" {
     fn gudrenoss_rank_of(allowed: bool, n: u64, bits: u64, rank: &mut u64) -> Status;
     fn gudrenoss_successor(allowed: bool, n: u64, bits: u64, next_alphabet: &mut u64, next_bits: &mut u64) -> Status;
     fn gudrenoss_unrank_any(allowed: bool, k: u64, r: u64, alphabet: &mut u64, bits: &mut u64) -> Status;
+    fn gudrenoss_count(allowed: bool, n: u64, k: u64, count: &mut u64) -> Status;
+    fn gudrenoss_unrank_over(allowed: bool, n: u64, k: u64, r: u64, alphabet: &mut u64, bits: &mut u64) -> Status;
 }
 
 // ---- the other side, as functions of the same shape
@@ -58,6 +61,15 @@ extern "C" fn their_unrank(_: bool, k: u64, r: u64, alphabet: &mut u64, bits: &m
     ANSWER
 }
 
+// The Rust unranks over no alphabet, so n is passed and only handed back.
+#[inline(never)]
+extern "C" fn their_unrank_over(allowed: bool, n: u64, k: u64, r: u64, alphabet: &mut u64, bits: &mut u64) -> Status {
+    *alphabet = n;
+    let family = if allowed { Repetition::Allowed } else { Repetition::Forbidden };
+    *bits = MonoIndex::from_rank(family, k as usize, r as usize).shifted_bits();
+    ANSWER
+}
+
 // ---- the inputs
 
 struct Random(u64);
@@ -82,6 +94,11 @@ fn sample(degrees: &[u64]) -> Vec<(u64, u64)> {
         bits
     };
     (0..SIZE).map(|i| degrees[i % degrees.len()]).map(|k| (of_degree(k, &mut random), k)).collect()
+}
+
+fn drawn(k: u64, count: u64) -> Vec<(u64, u64)> {
+    let mut random = Random(0x9E37_79B9_7F4A_7C15);
+    (0..SIZE).map(|_| (k, random.next() % count)).collect()
 }
 
 // ---- the race
@@ -122,6 +139,30 @@ fn rank_of(bits: u64) -> u64 {
     rank
 }
 
+fn count(allowed: bool, n: u64, k: u64) -> u64 {
+    let mut count = 0;
+    let back = unsafe { gudrenoss_count(allowed, n, k, &mut count) };
+    if back.number == 0 { count } else { 0 }
+}
+
+// Unranking over the alphabets of users, ranks drawn evenly; the degrees that have a word there.
+fn over_alphabets() {
+    println!("\n{:10} {:>6} {:>10} {:>10} {:>8}", "unrank", "n, k", "here, ns", "Rust, ns", "ratio");
+    for (name, allowed) in [("Forbidden", false), ("Allowed", true)] {
+        for n in [8, 16, 32, 64] {
+            for k in 2..=8 {
+                let words = count(allowed, n, k);
+                if words == 0 || n > 16 && k != 4 && k != 8 {
+                    continue;
+                }
+                let ranks = drawn(k, words);
+                let ours = |k, r, over: &mut u64, out: &mut u64| unsafe { gudrenoss_unrank_over(allowed, n, k, r, over, out) };
+                race(name, &format!("{n}, {k}"), &ranks, ours, |k, r, over, out| their_unrank_over(allowed, n, k, r, over, out));
+            }
+        }
+    }
+}
+
 fn main() {
     println!("{:10} {:>6} {:>10} {:>10} {:>8}", "call", "degree", "here, ns", "Rust, ns", "ratio");
     let mixed: Vec<u64> = (1..=12).collect();
@@ -150,4 +191,5 @@ fn main() {
             |k, r, n, out| their_unrank(false, k, r, n, out),
         );
     }
+    over_alphabets();
 }
