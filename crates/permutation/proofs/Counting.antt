@@ -1,17 +1,35 @@
 -- Loops that count over the places of an array. Assumes nothing.
 --   smaller-turn, smaller-end    one turn of the count of smaller entries, and how it ends
 --   smaller-few    no more are smaller than there are places
+--   counted-by-quotient, at-most-one    whether a small number is smaller than another, as a quotient; it is at most 1
 --   inversions-turn, inversions-end    the same for the inversions
-use mathlib.Core.Path.{_≡_, sym, ap, _∙_}
+use mathlib.Core.Path.{_≡_, refl, sym, ap, _∙_}
+use mathlib.Core.Bool.{Bool, true, false}
 use mathlib.Core.List.{List, [], _∷_}
-use Prim.Native.Nat.{ℕ, _+_, _≤_, _<_}
+use Prim.Native.Nat.{ℕ, _+_, _-_, _/_, _≤_, _<_}
+use native.Mathlib.Nat.{div-eq-of-lt, div-eq-sub-div}
 use native.Mathlib.Numerals.{add-one}
 use native.Mathlib.Omega.{arith}
+use borrow.Author.Tests.{ltb-true, ltb-false}
 use lib.Dec.{ltb}
 use lib.ListN.{length, getD}
 use lib.Seq.{slice, slice-empty, slice-cons, length-slice}
 use Rattle.words.specs.Inversions.{smallerIn, inversions}
 use Rattle.arrangements.proofs.Smaller.{one-if, smaller-at-most}
+use Rattle.permutation.specs.Record.{capacity}
+
+pub counted-by-quotient : (a x : ℕ) → a < capacity → x ≤ capacity → (x + capacity - 1 - a) / capacity ≡ one-if (ltb a x)
+counted-by-quotient a x h l = go (ltb a x) refl
+  where
+    go : (t : Bool) → ltb a x ≡ t → (x + capacity - 1 - a) / capacity ≡ one-if t
+    go true q =
+        div-eq-sub-div (omega arith) (omega (arith, ltb-true a x q))
+        ∙ ap (λ (n : ℕ). n + 1) (div-eq-of-lt (omega (arith, ltb-true a x q)))
+    go false q = div-eq-of-lt (omega (arith, ltb-false a x q))
+
+pub at-most-one : (t : Bool) → one-if t ≤ 1
+at-most-one true = omega arith
+at-most-one false = omega arith
 
 module _ (e : List ℕ) (i t : ℕ) where
   -- the part from i on begins with the entry at i

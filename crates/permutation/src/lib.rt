@@ -7,7 +7,7 @@ ghost use lib.Seq.{slice};
 ghost use Rattle.words.specs.Inversions.{smallerIn, inversions as inversionsOf};
 ghost use Rattle.answers.specs.Says.{answerSays};
 ghost use Rattle.arrangements.specs.Permutation.{isPermutation, compose as composeOf, inverse as inverseOf};
-ghost use Rattle.permutation.specs.Record.{capacity, zerosOnly, wordOf, recordOf, Holds, Agree, verdictSays, signsSays, refusal, giving, Arranges};
+ghost use Rattle.permutation.specs.Record.{capacity, zerosOnly, wordOf, recordOf, Holds, Small, Agree, verdictSays, signsSays, refusal, giving, Arranges};
 ghost use Rattle.permutation.specs.Rules.{isGood, taken, imageSays, inverseSays, composeSays, signSays};
 use answers::Answer;
 use answers::Refusal;
@@ -67,8 +67,14 @@ fn nothing_past(entries: &[u64; CAPACITY], n: u64) -> bool
     requires { ⌜ (n ≤ capacity) × (length (now entries) ≡ capacity) ⌝ }
     ensures { λ r. ⌜ r ≡ zerosOnly (drop n (now (entries .entry))) ⌝ }
 {
-    let zeros = smaller(entries, n, CAPACITY as u64, 1);
-    if zeros == CAPACITY as u64 - n {
+    let mut all = 0u64;
+    let mut i = n;
+    while i < CAPACITY as u64 {
+        let x = entries[i as usize];
+        all = all | x;
+        i += 1;
+    }
+    if all == 0 {
         return true;
     }
     false
@@ -230,9 +236,24 @@ pub fn smaller(entries: &[u64; CAPACITY], from: u64, to: u64, x: u64) -> u64
     count
 }
 
+// The same, of entries and an x that are no greater than the capacity. It has no test, so that the compiler counts several places at a time.
+fn below(entries: &[u64; CAPACITY], from: u64, to: u64, x: u64) -> u64
+    requires { ⌜ Small (now entries) from to x ⌝ }
+    ensures { λ r. ⌜ r ≡ smallerIn x (slice from to (now (entries .entry))) ⌝ }
+{
+    let mut count = 0u64;
+    let mut i = from;
+    while i < to {
+        let above = entries[i as usize];
+        count += (x + CAPACITY as u64 - 1 - above) / CAPACITY as u64;
+        i += 1;
+    }
+    count
+}
+
 // The number of pairs of places with the larger entry on the left.
 fn inversions(p: Permutation) -> u64
-    requires { ⌜ p .len ≤ capacity ⌝ }
+    requires { ⌜ Holds p ⌝ }
     ensures { λ r. ⌜ r ≡ inversionsOf (wordOf p) ⌝ }
 {
     let n = p.len;
@@ -241,7 +262,7 @@ fn inversions(p: Permutation) -> u64
     let mut i = 0u64;
     while i < n {
         let x = entries[i as usize];
-        sum += smaller(&entries, i + 1, n, x);
+        sum += below(&entries, i + 1, n, x);
         i += 1;
     }
     sum

@@ -19,7 +19,8 @@ use Rattle.answers.specs.Says.{refuses, gives}
 use Rattle.answers.proofs.Terms.{word-of-index}
 use Rattle.merging.specs.Sorting.{merged}
 use Rattle.deletion.specs.Absent.{absentFrom}
-use Rattle.permutation.specs.Rules.{taken}
+use Rattle.permutation.specs.Record.{zerosOnly}
+use Rattle.permutation.specs.Rules.{isGood, taken}
 use Rattle.permutation_order.specs.Rules.{numbered}
 use Rattle.arrangements.specs.Permutation.{isPermutation}
 use Rattle.arrangements.specs.Rank.{rankBelow}
@@ -47,7 +48,7 @@ without-63 = simp (word-of-index Forbidden 64 (0 ∷ 2 ∷ 63 ∷ []) (omega ari
 -- a line for each point
 pub hand-checked : AllHold cases
 unfolding choose rankFrom greatest fill nextFrom reset bitsOf onesFrom smallerIn multiplicity crossings equalPairs inversions merged holds reaches absentFrom
-    taken numbered isPermutation rankBelow factorial product cornerOf numberOf digitsOf
+    taken numbered isGood zerosOnly isPermutation rankBelow factorial product cornerOf numberOf digitsOf
 hand-checked =
     refl and refl
     and refl and refl and refl

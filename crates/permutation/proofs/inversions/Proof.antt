@@ -7,6 +7,7 @@ use lib.ListN.{length, take, getD}
 use lib.Seq.{slice}
 use Rattle.words.specs.Inversions.{inversions}
 use Rattle.permutation.specs.Record.{capacity}
+use Rattle.permutation.proofs.Taken.{holds-below}
 use Rattle.permutation.proofs.Counting.{smaller-few, inversions-turn, inversions-end}
 use Rattle.permutation.proofs.inversions.Statement.{statement}
 use Rattle.permutation.proofs.inversions.Tie as tie
@@ -22,37 +23,48 @@ loop-holds : tie.Need-loop-holds Inv-loop μ-loop
 loop-holds c = (omega arith, omega arith, search needs, omega arith)
 
 mul-x : tie.Need-mul-x Inv-loop μ-loop
-mul-x c = omega arith
+mul-x c = omega (arith, c .before .before .before .pre .short)
 
 array-read-x : tie.Need-array-read-x Inv-loop μ-loop
-array-read-x c = omega arith
+array-read-x c = omega (arith, c .before .before .before .pre .short)
 
-add-smaller : tie.Need-add-smaller Inv-loop μ-loop
-add-smaller c = omega arith
+add-below : tie.Need-add-below Inv-loop μ-loop
+add-below c = omega (arith, c .before .before .before .before .pre .short)
 
-smaller-requires : tie.Need-smaller-requires Inv-loop μ-loop
-smaller-requires c κs = (omega arith, omega arith, c .before .before .loop .inv .2)
+below-requires : tie.Need-below-requires Inv-loop μ-loop
+below-requires c κs =
+    let s = c .before .before .before .before in
+    let l = c .before .before .loop in
+    record {
+      order = omega arith;
+      within = s .pre .short;
+      least = omega (arith, s .pre .short, holds-below (s .args .p) (s .pre) (l .i) (c .before .loop-test .taken));
+      entries = λ k h. omega (arith, s .pre .short, holds-below (s .args .p) (s .pre) k h);
+      long = l .inv .2;
+    }
 
 add-sum : tie.Need-add-sum Inv-loop μ-loop
 add-sum c =
-    let p = c .before .before .before .before .before .args .p in
+    let s = c .before .before .before .before .before in
+    let p = s .args .p in
     let l = c .before .before .before .loop in
-    omega (arith, c .smaller .ensures, smaller-few (p .entries) (l .i + 1) (p .len) (getD (p .entries) (l .i) 0) (omega (arith, l .inv .2)))
+    omega (arith, s .pre .short, c .below .ensures, smaller-few (p .entries) (l .i + 1) (p .len) (getD (p .entries) (l .i) 0) (omega (arith, l .inv .2, s .pre .short)))
 
 add-i : tie.Need-add-i Inv-loop μ-loop
-add-i c = omega arith
+add-i c = omega (arith, c .before .before .before .before .before .pre .short)
 
 loop-less : tie.Need-loop-less Inv-loop μ-loop
 loop-less c = omega arith
 
 loop-again : tie.Need-loop-again Inv-loop μ-loop
 loop-again c =
-    let p = c .before .before .before .before .before .args .p in
+    let s = c .before .before .before .before .before in
+    let p = s .args .p in
     let l = c .before .before .before .loop in (
       omega arith,
-      omega (arith, c .smaller .ensures, smaller-few (p .entries) (l .i + 1) (p .len) (getD (p .entries) (l .i) 0) (omega (arith, l .inv .2))),
+      omega (arith, s .pre .short, c .below .ensures, smaller-few (p .entries) (l .i + 1) (p .len) (getD (p .entries) (l .i) 0) (omega (arith, l .inv .2, s .pre .short))),
       l .inv .2,
-      omega (arith, l .inv .3, c .smaller .ensures, inversions-turn (p .entries) (l .i) (p .len) (c .before .before .loop-test .taken) (omega (arith, l .inv .2))),
+      omega (arith, l .inv .3, c .below .ensures, inversions-turn (p .entries) (l .i) (p .len) (c .before .before .loop-test .taken) (omega (arith, l .inv .2, s .pre .short))),
     )
 
 returns : tie.Need-returns Inv-loop μ-loop
@@ -70,8 +82,8 @@ inversions-spec =
     loop-holds
     mul-x
     array-read-x
-    add-smaller
-    smaller-requires
+    add-below
+    below-requires
     add-sum
     add-i
     loop-less

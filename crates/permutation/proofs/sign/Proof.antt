@@ -14,7 +14,7 @@ enum-told : tie.Need-enum-told
 enum-told c = search needs
 
 inversions-requires : tie.Need-inversions-requires
-inversions-requires c κs = verdict-gives (c .before .before .before .args .p) _ (c .before .before .checked .ensures) (c .enum-told .given .1) (search needs) .short
+inversions-requires c κs = verdict-gives (c .before .before .before .args .p) _ (c .before .before .checked .ensures) (c .enum-told .given .1) (search needs)
 
 from-parity-requires : tie.Need-from-parity-requires
 from-parity-requires c κs = search needs
