@@ -16,7 +16,9 @@ use Rattle.packing.proofs.Checks.{rises-is-monotone}
 use Rattle.merging.specs.Sorting.{insert, sorted, repeats}
 use Rattle.deletion.specs.Multiplicities.{ceilingOf, stabilizerBelow}
 use Rattle.deletion.specs.Rules.{stabilizerSays}
-use Rattle.permutation.specs.Rules.{taken}
+use Rattle.permutation.specs.Record.{zerosOnly}
+use Rattle.permutation.specs.Rules.{isGood, taken}
+use Rattle.permutation_order.specs.Rules.{numbered}
 use Rattle.arrangements.specs.Permutation.{isPermutation}
 use Rattle.positional.specs.Positional.{product, cornerOf, numberOf, digitsOf}
 use Rattle.composition.specs.Exponents.{sumOf, added}
@@ -40,7 +42,7 @@ equal-symbols-big = simp (word-of-index Allowed 1 (zeros 21) (rises-is-monotone 
 -- ---- the list
 
 pub orders-hold : AllHold orders
-unfolding choose factorial bitsOf onesFrom smallerIn multiplicity crossings equalPairs inversions holds reaches taken isPermutation product cornerOf numberOf
+unfolding choose factorial bitsOf onesFrom smallerIn multiplicity crossings equalPairs inversions holds reaches taken numbered isGood zerosOnly isPermutation product cornerOf numberOf
     digitsOf insert sorted repeats ceilingOf stabilizerBelow sumOf added
 orders-hold =
     refl and refl and refl and refl and refl and refl and refl and refl
