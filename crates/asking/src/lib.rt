@@ -88,16 +88,17 @@ fn answer(line: &[u8], out: &mut [u8], at: usize) -> usize {
     }
 }
 
-// The answer to the line that is held: one that fills the buffer is too long. No answer takes more than 4,096 bytes.
+// The answer to the line that is held. No answer takes more than 4,096 bytes.
 fn answer_held(line: &[u8], held: usize, out: &mut [u8], at: usize) -> usize {
     let at = streams::with_room(out, at, 4096);
-    if held >= line.len() {
+    if held > line.len() {
         return replies::bad(out, at);
     }
     answer(&line[0..held], out, at)
 }
 
-// Holds one more byte of a line, where there is room for it.
+// Holds one more byte of a line, where there is room for it. There is room for one byte more than a request has, so a line that is cut
+// here is too long for a request (`requests::head`).
 fn hold(line: &mut [u8], held: usize, b: u8) -> usize {
     if held < line.len() {
         line[held] = b;

@@ -4,14 +4,15 @@
 --   successor-of-unrank, successor-of-the-last    the successor of the word of a rank is that of the next rank, and of the last there is none
 --   walk-stands, step-ends    the start, and the end: after its last word a walk stands nowhere
 --   walk-lists-by-rank    d steps give the words of the ranks below d, up to the count
+--   far-step-is-by-rank    what a walk over n gives after d further steps is the index of rank d, and 4 from the count on: the steps before it need not be made
 use mathlib.Core.Path.{_≡_, refl, sym, ap, ap₂, _∙_}
 use mathlib.Core.Bool.{Bool, true, false}
 use mathlib.Core.List.{List, _∷_}
 use Prim.Native.Nat.{ℕ, zero, suc, _+_, _-_, _≤_, _<_}
-use native.Mathlib.Nat.{zero-add, zero-lt-suc}
+use native.Mathlib.Nat.{zero-add, add-zero, zero-lt-suc}
 use native.Mathlib.Omega.{arith}
-use borrow.Author.Tests.{eq-eqb, ne-eqb, eqb-false}
-use lib.Dec.{eqb}
+use borrow.Author.Tests.{eq-eqb, ne-eqb, eqb-false, le-leb, lt-leb, ltb-true, ltb-false}
+use lib.Dec.{eqb, leb, ltb}
 use lib.ListN.{length, take}
 use Rattle.pascal.proofs.Choose.{choose-none}
 use Rattle.words.specs.declared.Family.{Family}
@@ -26,19 +27,19 @@ use Rattle.words.proofs.Ends.{first-is-unrank-zero}
 use Rattle.bits.specs.Member.{reaches}
 use Rattle.bits.proofs.Member.{reaches-not}
 use Rattle.answers.specs.declared.Index.{Index}
-use Rattle.answers.specs.Says.{Says, refuses, gives, refusedIf, andThen}
+use Rattle.answers.specs.Says.{Says, refusesWith, refuses, gives, refusedIf, andThen}
 use Rattle.answers.specs.Terms.{indexOf, wordOf}
 use Rattle.answers.proofs.Says.{gives-same}
 use Rattle.answers.proofs.Terms.{word-of-index}
 use Rattle.monotone.specs.declared.Walk.{Walk}
 use Rattle.monotone.specs.declared.Current.the-variants.{At, Nothing}
-use Rattle.monotone.specs.Rules.{countSays, nextSays, successorSays}
+use Rattle.monotone.specs.Rules.{countSays, nextSays, unrankOverSays, successorSays}
 use Rattle.taking.specs.Taken.{Accepted}
 use Rattle.taking.proofs.Accepted.{index-accepted, taken-accepted}
 use Rattle.monotone.specs.Walks.{Moved, walkSays, current, stepFrom, stepSays}
-use Rattle.monotone.proofs.Rules.{Counted}
+use Rattle.monotone.proofs.Rules.{Counted, count-given}
 use Rattle.promises.proofs.From.{from}
-use Rattle.promises.specs.Listing.{follow, listing}
+use Rattle.promises.specs.Listing.{follow, listing, stepGives}
 
 pub pos-of-ne : (a : ℕ) → (a ≡ 0 → ⊥) → 0 < a
 pos-of-ne zero h = absurd (h refl)
@@ -155,3 +156,60 @@ walk-lists-by-rank F n k c (suc d) i s a p = go (s .remaining) refl (λ h. walk-
         ap (follow (listing d)) (step-moves F n k c i s a p h .0)
         ∙ ap₂ (λ (u : List ℕ) (l : List (List ℕ)). u ∷ l) (word-of-index F n (unrankOf F k i) (unrank-monotone F k i))
         (ih h ∙ ap (λ (m : ℕ). take d (from (unrankOf F k) (suc i) m)) f)
+
+-- ---- a step far ahead
+
+-- the answer by the rank
+abbrev byRank : Family → ℕ → ℕ → ℕ → ℕ → Says Index
+byRank F n k c d = refusedIf (leb c d) 4 (gives (indexOf F n (unrankOf F k d)))
+
+step-gives-by-rank : (F : Family) (n k c d i : ℕ) (s : Walk) → Counted F n k c → Standing F n k c i s → stepGives d s ≡ byRank F n k c (i + d)
+unfolding stepGives moved
+step-gives-by-rank F n k c zero i s a p = go (ltb i c) refl
+  where
+    go : (t : Bool) → ltb i c ≡ t → andThen (stepSays s) (λ m. gives (m .index)) ≡ byRank F n k c (i + 0)
+    go true e =
+        let h = ltb-true i c e in
+        ap (λ (a : Says Moved). andThen a (λ m. gives (m .index))) (step-moves F n k c i s a p h .0)
+        ∙ sym (simp (add-zero, lt-leb c i h))
+    go false e =
+        let h = ltb-false i c e in
+        ap (λ (a : Says Moved). andThen a (λ m. gives (m .index))) (step-ends F n k c i s p (omega (arith, p .left)))
+        ∙ sym (simp (add-zero, le-leb c i h))
+step-gives-by-rank F n k c (suc d) i s a p =
+    go (ltb i c) refl (λ h. step-gives-by-rank F n k c d (suc i) (moved F n k i s) a (step-moves F n k c i s a p h .1))
+  where
+    go : (t : Bool) → ltb i c ≡ t → (i < c → stepGives d (moved F n k i s) ≡ byRank F n k c (suc i + d))
+        → andThen (stepSays s) (λ m. stepGives d (m .state)) ≡ byRank F n k c (i + suc d)
+    go true e ih =
+        let h = ltb-true i c e in
+        let f : suc i + d ≡ i + suc d = omega arith in
+        ap (λ (a : Says Moved). andThen a (λ m. stepGives d (m .state))) (step-moves F n k c i s a p h .0) ∙ ih h ∙ ap (byRank F n k c) f
+    go false e ih =
+        let h : c ≤ i + suc d = omega (arith, ltb-false i c e) in
+        ap (λ (a : Says Moved). andThen a (λ m. stepGives d (m .state))) (step-ends F n k c i s p (omega (arith, p .left, ltb-false i c e)))
+        ∙ sym (simp (le-leb c (i + suc d) h))
+
+pub far-step-is-by-rank : (F : Family) (n k d : ℕ)
+    → andThen (walkSays F n k) (stepGives d) ≡ andThen (countSays F n k) (λ c. refusedIf (leb c d) 4 (unrankOverSays F n k d))
+far-step-is-by-rank F n k d = go (countSays F n k) refl
+  where
+    state : ℕ → Says Walk
+    state c = gives (record { current = pick (eqb c 0) Nothing (At (indexOf F n (first F k))); remaining = c })
+
+    begin : ℕ → Walk
+    begin c = record { current = pick (eqb c 0) Nothing (At (indexOf F n (first F k))); remaining = c }
+
+    ranked : ℕ → Says Index
+    ranked c = refusedIf (leb c d) 3 (gives (indexOf F n (unrankOf F k d)))
+
+    told : (c : ℕ) (t : Bool) → leb c d ≡ t → byRank F n k c d ≡ pick t (refuses 4) (ranked c)
+    told c true e = simp e
+    told c false e = simp e
+
+    go : (a : Says ℕ) → countSays F n k ≡ a
+        → andThen (andThen a state) (stepGives d) ≡ andThen a (λ c. refusedIf (leb c d) 4 (andThen a ranked))
+    go (refusesWith e p) q = refl
+    go (gives c) q =
+        let o : Standing F n k c 0 (begin c) = walk-stands F n k c (begin c) q (ap (λ a. andThen a state) q) in
+        step-gives-by-rank F n k c d 0 (begin c) (count-given F n k c q) o ∙ ap (byRank F n k c) (zero-add d) ∙ told c (leb c d) refl

@@ -1,5 +1,6 @@
 -- What a walk gives, step after step. Assumes nothing.
 --   listing d s    the words that d steps of a walk from the state s give, in order, up to the first refusal
+--   stepGives d s    what a walk from the state s gives after d further steps, or the first refusal on the way
 --   Lists F n k l    the list l has exactly the words of k symbols below n, each once, in colex order
 --   sumBelow n f    f 0 + f 1 + .. + f (n - 1)
 use mathlib.Core.Path.{_≡_}
@@ -10,7 +11,8 @@ use Rattle.words.specs.declared.Family.{Family}
 use Rattle.words.specs.Word.{Word}
 use Rattle.words.specs.Colex.{ColexLt}
 use Rattle.words.specs.HowMany.{In, Distinct}
-use Rattle.answers.specs.Says.{Says, refusesWith, gives}
+use Rattle.answers.specs.declared.Index.{Index}
+use Rattle.answers.specs.Says.{Says, refusesWith, gives, andThen}
 use Rattle.answers.specs.Terms.{wordOf}
 use Rattle.monotone.specs.declared.Walk.{Walk}
 use Rattle.monotone.specs.Walks.{Moved, stepSays}
@@ -23,6 +25,10 @@ follow rest (gives m) = wordOf (m .index) ∷ rest (m .state)
 unfoldable pub listing : ℕ → Walk → List (List ℕ)
 listing zero s = []
 listing (suc d) s = follow (listing d) (stepSays s)
+
+unfoldable pub stepGives : ℕ → Walk → Says Index
+stepGives zero s = andThen (stepSays s) (λ m. gives (m .index))
+stepGives (suc d) s = andThen (stepSays s) (λ m. stepGives d (m .state))
 
 pub record Lists (F : Family) (n k : ℕ) (l : List (List ℕ)) : Type 0 where
   pub sound : (w : List ℕ) → In w l → Word F n k w

@@ -1,1 +1,3 @@
-pub mod Bounds
+pub mod Protocol
+pub mod Parts
+pub mod Patterns

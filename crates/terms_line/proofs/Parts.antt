@@ -17,14 +17,15 @@ use borrow.Author.Needs.{needs}
 use Rattle.words.specs.declared.Family.{Family}
 use Rattle.words.specs.declared.Family.the-variants.{Forbidden, Allowed}
 use Rattle.text.specs.Text.{Found}
+use Rattle.text.specs.Names.{nameOf, Names}
+use Rattle.text.specs.declared.Named.{Named}
+use Rattle.text.specs.declared.Named.the-variants as named
 use Rattle.text.specs.Numeral.{Numeral, Reads}
 use Rattle.text.specs.declared.Number.{Number}
 use Rattle.text.specs.declared.Number.the-variants as number
 use Rattle.text.proofs.Found.{found-later, found-first}
 use Rattle.terms_line.specs.declared.Line.the-variants as line
-use Rattle.terms_line.specs.declared.Named.{Named}
-use Rattle.terms_line.specs.declared.Named.the-variants as named
-use Rattle.terms_line.specs.Line.{nameOf, Names, Asks, Parses}
+use Rattle.terms_line.specs.Line.{Asks, Parses}
 
 -- the text about a space
 around : (s : List ℕ) (a : ℕ) → a < length s → getD s a 0 ≡ 32 → s ≡ take a s ++ (32 ∷ drop (a + 1) s)

@@ -1,11 +1,12 @@
 // What document 01's program writes for one line: the header, and the words of a family in their order.
-ghost use Rattle.terms_line.specs.Line.{Names, Parses};
+ghost use Rattle.terms_line.specs.Line.{Parses};
 use answers::Answer;
 use answers::Index;
 use answers::Refusal;
 use monotone::Started;
 use monotone::Stepped;
 use monotone::Walk;
+use text::Named;
 use text::Number;
 use words::Family;
 
@@ -13,24 +14,6 @@ use words::Family;
 enum Line {
     Words(Family, u64, u64),
     Bad,
-}
-
-enum Named {
-    Family(Family),
-    Nothing,
-}
-
-// The family that a word names.
-fn family(name: &[u8]) -> Named
-    ensures { λ r. ⌜ Names (now (name .entry)) r ⌝ }
-{
-    if check::same(name, b"forbidden") {
-        return Named::Family(Family::Forbidden);
-    }
-    if check::same(name, b"allowed") {
-        return Named::Family(Family::Allowed);
-    }
-    Named::Nothing
 }
 
 // A line is `forbidden` or `allowed`, one space, n, one space, k, and nothing else.
@@ -45,7 +28,7 @@ fn parse(line: &[u8]) -> Line
     if b == line.len() {
         return Line::Bad;
     }
-    let Named::Family(f) = family(&line[0..a]) else {
+    let Named::Family(f) = text::family(&line[0..a]) else {
         return Line::Bad;
     };
     let Number::Is(n) = text::read_number(&line[a + 1..b]) else {

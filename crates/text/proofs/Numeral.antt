@@ -1,5 +1,7 @@
 -- A number has one numeral, so what `put_number` writes and what `read_number` reads are determined. Assumes nothing.
 --   value-below, value-above    the number that digits write lies between two multiples of a power of ten
+--   numeral-above    a numeral of more than one digit is that of a number of that length at least
+--   numeral-within    the numeral of a number below 2 ^ 64 has 20 digits at most
 --   longer-is-larger    of two numerals the longer is that of the larger number
 --   same-digits    digits of one length that write one number are the same
 --   one-numeral    a number has one numeral
@@ -40,15 +42,29 @@ value-above a (b ∷ w) =
     let m : a * 10 * 10 ^ length w ≤ (a * 10 + (b - 48)) * 10 ^ length w = mul-le-mul-right (10 ^ length w) (omega arith) in
     subst (λ (t : ℕ). t ≤ valueFrom (a * 10 + (b - 48)) w) (sym (ten-more a (length w))) (le-trans m (value-above (a * 10 + (b - 48)) w))
 
+numeral-above : (b : ℕ) (w : List ℕ) (n : ℕ) → Numeral (b ∷ w) n → 0 < length w → 10 ^ length w ≤ n
+unfolding valueFrom
+numeral-above b w n q l =
+    let f = first-digit b w (q .digits) in
+    let front : 1 ≤ 0 * 10 + (b - 48) = ⊎-elim (λ (e : 48 ≡ b). absurd (q .plain (omega arith) (sym e))) (λ (h : 48 < b). omega arith) (eq-or-lt-of-le (f .0)) in
+    let m : 1 * 10 ^ length w ≤ (0 * 10 + (b - 48)) * 10 ^ length w = mul-le-mul-right (10 ^ length w) front in
+    omega (arith, value-above (0 * 10 + (b - 48)) w, m, q .value)
+
 longer-is-larger : (v w : List ℕ) (n m : ℕ) → Numeral v n → Numeral w m → length v < length w → n < m
 unfolding valueFrom
 longer-is-larger v [] n m p q l = absurd (omega arith)
 longer-is-larger v (b ∷ w) n m p q l =
     let ten : 10 ^ length v ≤ 10 ^ length w = pow-le-pow-right (omega arith) (le-of-suc-le-suc l) in
-    let f = first-digit b w (q .digits) in
-    let front : 1 ≤ 0 * 10 + (b - 48) = ⊎-elim (λ (e : 48 ≡ b). absurd (q .plain (omega (arith, p .some)) (sym e))) (λ (h : 48 < b). omega arith) (eq-or-lt-of-le (f .0)) in
-    let m : 1 * 10 ^ length w ≤ (0 * 10 + (b - 48)) * 10 ^ length w = mul-le-mul-right (10 ^ length w) front in
-    omega (arith, value-below 0 v (p .digits), value-above (0 * 10 + (b - 48)) w, ten, m, p .value, q .value)
+    omega (arith, value-below 0 v (p .digits), numeral-above b w m q (omega (arith, p .some)), ten, p .value)
+
+pub numeral-within : (w : List ℕ) (n : ℕ) → Numeral w n → n < 2 ^ 64 → length w ≤ 20
+numeral-within [] n o h = omega arith
+numeral-within (b ∷ w) n o h = lt-of-not-le long
+  where
+    long : 20 ≤ length w → ⊥
+    long l =
+        let ten : 10 ^ 20 ≤ 10 ^ length w = pow-le-pow-right (omega arith) l in
+        omega (arith, numeral-above b w n o (omega arith), ten)
 
 same-digits : (a c : ℕ) (v w : List ℕ) → Digits v → Digits w → length v ≡ length w → valueFrom a v ≡ valueFrom c w → (a ≡ c) × (v ≡ w)
 unfolding valueFrom

@@ -5,11 +5,19 @@ ghost use Prim.Native.Nat.{_<_};
 ghost use lib.ListN.{length, drop};
 ghost use Rattle.text.specs.Text.{Found, Put};
 ghost use Rattle.text.specs.Numeral.{Numeral, Reads, PutNumeral};
+ghost use Rattle.text.specs.Names.{Names};
+use words::Family;
 
 // What a word says as a number: a number below 2^64, or none.
 pub enum Number {
     Is(u64),
     Bad,
+}
+
+// What a word names: a family, or none.
+pub enum Named {
+    Family(Family),
+    Nothing,
 }
 
 // The first place at or after `from` where b stands in s, or the length of s if there is none.
@@ -65,6 +73,19 @@ pub fn read_number(word: &[u8]) -> Number
         i += 1;
     }
     Number::Is(n)
+}
+
+// The family that a word names.
+pub fn family(name: &[u8]) -> Named
+    ensures { λ r. ⌜ Names (now (name .entry)) r ⌝ }
+{
+    if check::same(name, b"forbidden") {
+        return Named::Family(Family::Forbidden);
+    }
+    if check::same(name, b"allowed") {
+        return Named::Family(Family::Allowed);
+    }
+    Named::Nothing
 }
 
 // Puts a byte string into a lent text from place `at` on, and answers the place after it. One that does not fit is not written, and

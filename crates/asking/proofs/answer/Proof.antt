@@ -1,8 +1,6 @@
 -- `asking::answer` is safe and ends: the verb that `head` finds stands within the line. Assumes nothing.
 use mathlib.Core.Path.{subst}
-use lib.ListN.{length}
-use denote.Ref.{now}
-use Rattle.requests.specs.Bounds.{VerbWithin}
+use Rattle.requests.specs.Parts.{Begins}
 use borrow.Author.Needs.{needs}
 use Rattle.asking.proofs.answer.Statement.{statement}
 use Rattle.asking.proofs.answer.Tie as tie
@@ -16,7 +14,8 @@ enum-known-room c = search needs
 answer-at-requires : tie.Need-answer-at-requires
 answer-at-requires c κs =
     let at-head = c .before .before .before .before in
-    subst (VerbWithin (length (now (at-head .before .before .before .args .line)))) (c .before .before .room .given .1) (at-head .head .ensures)
+    let verb = subst (Begins _) (c .before .before .room .given .1) (at-head .head .ensures) in
+    (verb .ordered, verb .within)
 
 enum-told : tie.Need-enum-told
 enum-told c = search needs

@@ -1,7 +1,6 @@
 -- `asking::answer_at` is safe and ends: the words that are taken in stand within their places. Assumes nothing.
 use mathlib.Core.Path.{subst}
-use lib.ListN.{length}
-use Rattle.requests.specs.Bounds.{WordsWithin}
+use Rattle.requests.specs.Parts.{Takes}
 use borrow.Author.Needs.{needs}
 use Rattle.asking.proofs.answer_at.Statement.{statement}
 use Rattle.asking.proofs.answer_at.Tie as tie
@@ -39,8 +38,8 @@ slice-aggregate-answer-words-2 c = search needs
 answer-words-requires : tie.Need-answer-words-requires
 answer-words-requires c κs =
     let at-words = c .before .before .before .before .before .before .before .before .before in
-    subst (WordsWithin (length (at-words .words .last .1 .1 .0)) (length (at-words .words .last .1 .1 .1 .0)))
-    (c .before .before .before .before .before .n .given .1) (at-words .words .ensures)
+    let words = subst (Takes _ _ _ _ _) (c .before .before .before .before .before .n .given .1) (at-words .words .ensures) in
+    (words .kinds-hold, words .values-hold)
 
 enum-told : tie.Need-enum-told
 enum-told c = search needs

@@ -1,55 +1,25 @@
--- `requests::after_list` is safe and ends. The measure is what is left of the words. Assumes nothing.
-use Prim.Native.Nat.{_-_}
-use lib.ListN.{length}
+-- `requests::after_list` meets its contract: a list ends where its numbers end, and more than 80 are none. Assumes nothing.
+use mathlib.Core.Path.{refl}
+use native.Mathlib.Omega.{arith}
+use Rattle.requests.proofs.Fitting.{list-passed, list-too-long}
 use borrow.Author.Needs.{needs}
 use Rattle.requests.proofs.after_list.Statement.{statement}
 use Rattle.requests.proofs.after_list.Tie as tie
 
-abbrev Inv-loop : tie.InvT-loop
-Inv-loop kinds i most to₀ left₀ to left = Unit {0}
+after-numbers-requires : tie.Need-after-numbers-requires
+after-numbers-requires c κs = search needs
 
-abbrev μ-loop : tie.MeasureT-loop
-μ-loop kinds i most to₀ left₀ to left = length kinds - to
+sub-if1 : tie.Need-sub-if1
+sub-if1 c = search needs
 
-loop-holds : tie.Need-loop-holds Inv-loop μ-loop
-loop-holds c = search needs
+add-result : tie.Need-add-result
+add-result c = search needs
 
-returns : tie.Need-returns Inv-loop μ-loop
-returns c = search needs
+returns : tie.Need-returns
+returns c = list-too-long (c .before .before .before .args .kinds .now) (c .before .before .before .args .i) _ refl (omega (arith, c .before .after-numbers .ensures))
 
-shared-slice-read-if2 : tie.Need-shared-slice-read-if2 Inv-loop μ-loop
-shared-slice-read-if2 c = search needs
-
-returns-2 : tie.Need-returns-2 Inv-loop μ-loop
-returns-2 c = search needs
-
-add-to : tie.Need-add-to Inv-loop μ-loop
-add-to c = search needs
-
-sub-left : tie.Need-sub-left Inv-loop μ-loop
-sub-left c = search needs
-
-loop-less : tie.Need-loop-less Inv-loop μ-loop
-loop-less c = search needs
-
-loop-again : tie.Need-loop-again Inv-loop μ-loop
-loop-again c = search needs
-
-returns-3 : tie.Need-returns-3 Inv-loop μ-loop
-returns-3 c = search needs
+returns-2 : tie.Need-returns-2
+returns-2 c = list-passed (c .before .before .before .args .kinds .now) (c .before .before .before .args .i) _ (c .before .after-numbers .ensures) (omega (arith, c .before .after-numbers .ensures))
 
 pub after-list-spec : {M : Type 1} → statement M
-after-list-spec =
-    tie.close
-    (tie.spec
-    Inv-loop
-    μ-loop
-    loop-holds
-    returns
-    shared-slice-read-if2
-    returns-2
-    add-to
-    sub-left
-    loop-less
-    loop-again
-    returns-3)
+after-list-spec = tie.close (tie.spec after-numbers-requires sub-if1 add-result returns returns-2)

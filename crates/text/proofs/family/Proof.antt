@@ -1,4 +1,4 @@
--- `terms_line::family` meets its contract: each return by the comparisons that led there. Assumes nothing.
+-- `text::family` meets its contract: each return by the comparisons that led there. Assumes nothing.
 use mathlib.Core.Path.{_≡_}
 use mathlib.Core.Bool.{Bool, true, false}
 use Prim.Native.Nat.{ℕ}
@@ -7,9 +7,9 @@ use denote.Ref.{now}
 use borrow.Author.Needs.{needs}
 use Rattle.words.specs.declared.Family.{Family}
 use Rattle.words.specs.declared.Family.the-variants.{Forbidden, Allowed}
-use Rattle.terms_line.specs.Line.{nameOf}
-use Rattle.terms_line.proofs.family.Statement.{statement}
-use Rattle.terms_line.proofs.family.Tie as tie
+use Rattle.text.specs.Names.{nameOf}
+use Rattle.text.proofs.family.Statement.{statement}
+use Rattle.text.proofs.family.Tie as tie
 
 refused : {t : Bool} → t ≡ true → t ≡ false → ⊥
 refused p q = let z : _≡_ {A = ℕ} 0 1 = cc in omega arith
