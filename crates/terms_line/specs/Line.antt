@@ -1,9 +1,16 @@
 -- The line that document 01's program reads: "`forbidden` or `allowed`, one space, n, one space, k, in decimal below 2^64 without leading zeros". Assumes nothing.
 --   Asks line F n k    the line is the name of F, a space, the numeral of n, a space and the numeral of k, both below 2 ^ 64
 --   Parses line r    r is what the line asks for, and a bad line exactly if it asks for nothing
-use mathlib.Core.List.{List, _∷_, _++_}
+--   firstLine input    the first line of an input: it ends at a newline or at the end
+--   longest    how many bytes a line that asks for words has at most
+--   Settled held more    of an input that begins with the bytes held and goes on with more, those held tell the first line, or that it is bad: the input has ended, a newline has come, or the bytes are more than a good line has
+--   Answers held r    r is what the first line asks for of every input that begins with the bytes held and is settled by them
+use mathlib.Core.List.{List, [], _∷_, _++_}
 use mathlib.Core.Path.{_≡_}
 use Prim.Native.Nat.{ℕ, _^_, _<_}
+use lib.Dec.{eqb}
+use lib.ListN.{length, getD}
+use Rattle.words.specs.Pick.{pick}
 use Rattle.words.specs.declared.Family.{Family}
 use Rattle.text.specs.Names.{nameOf}
 use Rattle.text.specs.Numeral.{Numeral}
@@ -22,3 +29,18 @@ pub record Asks (text : List ℕ) (F : Family) (n k : ℕ) : Type 0 where
 abbrev pub Parses : List ℕ → Line → Type 0
 Parses text (line.Words F n k) = Asks text F n k
 Parses text line.Bad = (F : Family) (n k : ℕ) → Asks text F n k → ⊥
+
+unfoldable pub firstLine : List ℕ → List ℕ
+firstLine [] = []
+firstLine (b ∷ s) = pick (eqb b 10) [] (b ∷ firstLine s)
+
+abbrev pub longest : ℕ
+longest = 51
+
+pub data Settled (held more : List ℕ) : Type 0 where
+  ended : more ≡ [] → Settled held more
+  newline : (k : ℕ) → k < length held → getD held k 0 ≡ 10 → Settled held more
+  long : longest < length held → Settled held more
+
+abbrev pub Answers : List ℕ → Line → Type 0
+Answers held r = (more : List ℕ) → Settled held more → Parses (firstLine (held ++ more)) r

@@ -1,5 +1,5 @@
 // What document 01's program writes for one line: the header, and the words of a family in their order.
-ghost use Rattle.terms_line.specs.Line.{Parses};
+ghost use Rattle.terms_line.specs.Line.{Parses, Answers};
 use answers::Answer;
 use answers::Index;
 use answers::Refusal;
@@ -38,6 +38,15 @@ fn parse(line: &[u8]) -> Line
         return Line::Bad;
     };
     Line::Words(f, n, k)
+}
+
+// What the first line of an input asks for, of which the first bytes are held: all of it, or up to a newline at least, or more bytes than
+// a good line has.
+fn first(held: &[u8]) -> Line
+    ensures { λ r. ⌜ Answers (now (held .entry)) r ⌝ }
+{
+    let end = text::find(held, 0, b'\n');
+    parse(&held[0..end])
 }
 
 fn put_refusal(out: &mut [u8], at: usize, e: Refusal) -> usize {
@@ -126,16 +135,16 @@ fn put_terms(out: &mut [u8], f: Family, n: u64, k: u64) -> usize {
     }
 }
 
-fn put_answer(out: &mut [u8], line: &[u8]) -> usize {
-    match parse(line) {
+fn put_answer(out: &mut [u8], held: &[u8]) -> usize {
+    match first(held) {
         Line::Words(f, n, k) => put_terms(out, f, n, k),
         Line::Bad => text::put(out, 0, b"bad line\n"),
     }
 }
 
-// Writes to standard output what the program answers to a line, which is given without its end.
-pub fn answer(line: &[u8]) {
+// Writes to standard output what the program answers to the first line of an input, of which the first bytes are held.
+pub fn answer(held: &[u8]) {
     let mut out = io::buffer();
-    let at = put_answer(&mut out, line);
+    let at = put_answer(&mut out, held);
     streams::flush(&out, at);
 }

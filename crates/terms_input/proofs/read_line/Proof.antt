@@ -1,10 +1,10 @@
--- `terms::read_line` meets its contract and ends. The measure is the room that is left in the buffer. Assumes nothing.
+-- `terms_input::read_line` meets its contract and ends. The measure is the room that is left in the buffer. Assumes nothing.
 use mathlib.Core.Path.{_≡_}
 use Prim.Native.Nat.{_-_, _≤_}
 use lib.ListN.{length}
 use borrow.Author.Needs.{needs}
-use Rattle.terms.proofs.read_line.Statement.{statement}
-use Rattle.terms.proofs.read_line.Tie as tie
+use Rattle.terms_input.proofs.read_line.Statement.{statement}
+use Rattle.terms_input.proofs.read_line.Tie as tie
 
 abbrev Inv-loop : tie.InvT-loop
 Inv-loop buffer₀ n₀ buffer n = (n ≤ length buffer) × (length buffer ≡ length buffer₀)
