@@ -1,6 +1,7 @@
 -- What taking a line apart promises, about the definitions that the contracts cite. Assumes nothing.
 --   one-word    a text says one word at most: no family is read as the other, no number as another
 --   one-reading    a line asks for one thing at most: what it is lent, its verb and its words are determined
+--   taken-apart, bad-head, bad-words    a line that `head` and `words` take asks for the verb and the words that they find; one that they refuse asks for nothing, or for more words than there are places
 --   family-read, number-read    at the place of a family or a number among the words, that family and that number are read
 --   list-read    a list that runs to the end is read whole
 --   lists-read    two lists about a `/` are read whole, the first up to it and the second after it
@@ -9,7 +10,7 @@ use mathlib.Core.Bool.{Bool, true, false}
 use mathlib.Core.Path.{_≡_, refl, sym, ap, ap₂, subst, _∙_}
 use mathlib.Core.Logic.{_⊎_, inl, inr}
 use mathlib.Core.List.{List, [], _∷_, _++_, map}
-use Prim.Native.Nat.{ℕ, zero, suc, _+_, _≤_, _<_}
+use Prim.Native.Nat.{ℕ, zero, suc, _+_, _-_, _≤_, _<_}
 use native.Mathlib.Nat.{le-of-suc-le-suc}
 use native.Mathlib.Numerals.{add-one}
 use native.Mathlib.Omega.{arith}
@@ -22,8 +23,10 @@ use Rattle.words.specs.declared.Family.the-variants.{Forbidden, Allowed}
 use Rattle.text.specs.Text.{Found}
 use Rattle.text.specs.Numeral.{valueFrom, Numeral}
 use Rattle.text.proofs.Found.{found-first}
-use Rattle.requests.specs.Protocol.{Word, number, family, slash, here, nowhere, Spells, AllSpell, Lent, enough, places, Opens, Asks}
-use Rattle.requests.specs.Parts.{kindsOf, valuesOf, familyAt}
+use Rattle.requests.specs.declared.Begun.the-variants as begun
+use Rattle.requests.specs.declared.Rest.the-variants as taken
+use Rattle.requests.specs.Protocol.{textsFrom, Word, number, family, slash, here, nowhere, Spells, AllSpell, Lent, enough, places, Opens, Asks}
+use Rattle.requests.specs.Parts.{BeginsAt, Begins, kindsOf, valuesOf, TakesAll, Takes, familyAt}
 use Rattle.requests.specs.Patterns.{numbersIn, fits}
 use Rattle.requests.proofs.Fitting.{fits-list}
 
@@ -86,6 +89,21 @@ pub one-reading : (line : List ℕ) (l m : Lent) (u v : List ℕ) (xs ys : List 
 one-reading line l m u v xs ys p q =
     let o = one-opening line l m u v (p .rest) (q .rest) (p .opens) (q .opens) in
     (o .0, (o .1 .0, all-one (q .rest) xs ys (subst (λ (ts : List (List ℕ)). AllSpell ts xs) (o .1 .1) (p .says)) (q .says)))
+
+-- ---- what `head` and `words` say together
+
+module _ (line : List ℕ) (room from end : ℕ) (b : BeginsAt line room from end) (kinds values kinds′ values′ : List ℕ) where
+  pub taken-apart : (n : ℕ) (t : TakesAll (textsFrom line (end + 1)) kinds values kinds′ values′ n) → Asks line (b .lent) (take (end - from) (drop from line)) (t .words)
+  taken-apart n t = record { rest = textsFrom line (end + 1); opens = b .opens; says = t .says }
+
+  pub bad-words : Takes (textsFrom line (end + 1)) kinds values kinds′ values′ taken.Bad → (lent : Lent) (verb : List ℕ) (xs : List Word)
+      → length xs ≤ length kinds → length xs ≤ length values → Asks line lent verb xs → ⊥
+  bad-words d lent verb xs k v o =
+      let same = one-opening line lent (b .lent) verb (take (end - from) (drop from line)) (o .rest) (textsFrom line (end + 1)) (o .opens) (b .opens) in
+      d xs k v (subst (λ (ts : List (List ℕ)). AllSpell ts xs) (same .1 .1) (o .says))
+
+pub bad-head : (line : List ℕ) → Begins line begun.Bad → (lent : Lent) (verb : List ℕ) (xs : List Word) → Asks line lent verb xs → ⊥
+bad-head line d lent verb xs o = d lent verb (o .rest) (o .opens)
 
 -- ---- the words by their places
 
