@@ -80,30 +80,91 @@ fn give(a: Arranged, places: &mut [u64]) -> Reply {
     }
 }
 
+// Whether the words of a permutation are not too many: after raw and the length at most as many entries as a record has.
+fn is_short(raw: bool, words: &[u64]) -> bool {
+    if raw {
+        return words.len() <= CAPACITY + 2;
+    }
+    true
+}
+
+// Whether a request has one permutation: a list as the first entry says, or in so many words at most raw, a length and entries as the second says.
+fn asks_one(verb: &[u8], kinds: &[u8], list: &[u8], raw: &[u8], most: usize) -> bool {
+    if requests::asks(verb, kinds, list) {
+        return true;
+    }
+    if !requests::asks(verb, kinds, raw) {
+        return false;
+    }
+    kinds.len() <= most
+}
+
+// Whether a request has two permutations, each a list or raw, a length and entries.
+fn asks_two(verb: &[u8], kinds: &[u8]) -> bool {
+    if requests::asks(verb, kinds, b"permcompose */*") {
+        return true;
+    }
+    if requests::asks(verb, kinds, b"permcompose rn*/*") {
+        return true;
+    }
+    if requests::asks(verb, kinds, b"permcompose */rn*") {
+        return true;
+    }
+    requests::asks(verb, kinds, b"permcompose rn*/rn*")
+}
+
 // The requests that are answered by a number or a sign.
 fn of_record(verb: &[u8], kinds: &[u8], values: &[u64]) -> Reply {
-    if requests::asks(verb, kinds, b"permrank P") {
+    if asks_one(verb, kinds, b"permrank *", b"permrank rn*", CAPACITY + 2) {
         let p = operand(is_raw(kinds, 0), requests::list(values, 0));
         return Reply::Number(permutation_order::rank(p));
     }
-    if requests::asks(verb, kinds, b"permsign P") {
+    if asks_one(verb, kinds, b"permsign *", b"permsign rn*", CAPACITY + 2) {
         let p = operand(is_raw(kinds, 0), requests::list(values, 0));
         return Reply::Sign(permutation::sign(p));
     }
-    if requests::asks(verb, kinds, b"permimage n/P") {
+    if asks_one(
+        verb,
+        kinds,
+        b"permimage n/*",
+        b"permimage n/rn*",
+        CAPACITY + 4,
+    ) {
         let p = operand(is_raw(kinds, 2), requests::list(values, 2));
         return Reply::Number(permutation::image(p, requests::number(values, 0)));
     }
     Reply::Bad
 }
 
+// The composition, if neither permutation has too many words.
+fn composed(kinds: &[u8], values: &[u64], places: &mut [u64]) -> Reply {
+    let slash = requests::slash(kinds);
+    let left = is_raw(kinds, 0);
+    let right = is_raw_after(kinds, slash);
+    if !is_short(left, requests::list_before(values, slash)) {
+        return Reply::Bad;
+    }
+    if !is_short(right, requests::list_after(values, slash)) {
+        return Reply::Bad;
+    }
+    let p = operand(left, requests::list_before(values, slash));
+    let q = operand(right, requests::list_after(values, slash));
+    give(permutation::compose(p, q), places)
+}
+
 // The requests that are answered by a permutation.
 fn arranged(verb: &[u8], kinds: &[u8], values: &[u64], places: &mut [u64]) -> Reply {
-    if requests::asks(verb, kinds, b"perminverse P") {
+    if asks_one(
+        verb,
+        kinds,
+        b"perminverse *",
+        b"perminverse rn*",
+        CAPACITY + 2,
+    ) {
         let p = operand(is_raw(kinds, 0), requests::list(values, 0));
         return give(permutation::inverse(p), places);
     }
-    if requests::asks(verb, kinds, b"permnext P") {
+    if asks_one(verb, kinds, b"permnext *", b"permnext rn*", CAPACITY + 2) {
         let p = operand(is_raw(kinds, 0), requests::list(values, 0));
         return give(permutation_order::successor(p), places);
     }
@@ -112,14 +173,8 @@ fn arranged(verb: &[u8], kinds: &[u8], values: &[u64], places: &mut [u64]) -> Re
         let r = requests::number(values, 1);
         return give(permutation_order::unrank(n, r), places);
     }
-    if requests::asks(verb, kinds, b"permcompose P/P") {
-        let slash = requests::slash(kinds);
-        let p = operand(is_raw(kinds, 0), requests::list_before(values, slash));
-        let q = operand(
-            is_raw_after(kinds, slash),
-            requests::list_after(values, slash),
-        );
-        return give(permutation::compose(p, q), places);
+    if asks_two(verb, kinds) {
+        return composed(kinds, values, places);
     }
     Reply::Bad
 }

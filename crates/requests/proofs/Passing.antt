@@ -20,7 +20,7 @@ use Rattle.text.specs.declared.Named.{Named}
 use Rattle.text.specs.declared.Named.the-variants as named
 use Rattle.text.specs.declared.Number.{Number}
 use Rattle.text.specs.declared.Number.the-variants as read
-use Rattle.requests.specs.Protocol.{Word, number, family, slash, here, nowhere, hereName, nowhereName, Spells, AllSpell}
+use Rattle.requests.specs.Protocol.{Word, number, family, slash, here, nowhere, raw, hereName, nowhereName, rawName, Spells, AllSpell}
 use Rattle.requests.specs.Parts.{kindOf, valueOf, kindsOf, valuesOf, KindOf, WordIn, TakenIn, TakesAll}
 
 apart : true ≡ false → ⊥
@@ -36,11 +36,12 @@ kind-is text x k s e v h =
       no-slash = λ z. absurd (omega arith);
       no-here = λ z. absurd (omega arith);
       no-nowhere = λ z. absurd (omega arith);
+      no-raw = λ z. absurd (omega arith);
     }
 
-pub no-kind : (text : List ℕ) (r : Named) → r ≡ named.Nothing → Names text r → (text ≡ 47 ∷ [] → ⊥) → (text ≡ hereName → ⊥) → (text ≡ nowhereName → ⊥) → KindOf text 0
-no-kind text r e o d h w =
-    record { some = λ z. absurd (z refl); no-family = λ z. subst (Names text) e o; no-slash = λ z. d; no-here = λ z. h; no-nowhere = λ z. w }
+pub no-kind : (text : List ℕ) (r : Named) → r ≡ named.Nothing → Names text r → (text ≡ 47 ∷ [] → ⊥) → (text ≡ hereName → ⊥) → (text ≡ nowhereName → ⊥) → (text ≡ rawName → ⊥) → KindOf text 0
+no-kind text r e o d h w a =
+    record { some = λ z. absurd (z refl); no-family = λ z. subst (Names text) e o; no-slash = λ z. d; no-here = λ z. h; no-nowhere = λ z. w; no-raw = λ z. a }
 
 module _ (text : List ℕ) (i : ℕ) (kinds values : List ℕ) where
   pub number-in : (r : Number) (n : ℕ) → r ≡ read.Is n → Reads text r → TakenIn text i kinds values (set kinds i 110) (set values i n) true
@@ -60,6 +61,7 @@ module _ (text : List ℕ) (i : ℕ) (kinds values : List ℕ) where
       none t slash s = q .no-slash (eqb-true k 0 (not-false (eqb k 0) t)) s
       none t here s = q .no-here (eqb-true k 0 (not-false (eqb k 0) t)) s
       none t nowhere s = q .no-nowhere (eqb-true k 0 (not-false (eqb k 0) t)) s
+      none t raw s = q .no-raw (eqb-true k 0 (not-false (eqb k 0) t)) s
 
 -- ---- one text after the other
 

@@ -5,7 +5,7 @@
 --   family-read, number-read    at the place of a family or a number among the words, that family and that number are read
 --   list-read    a list that runs to the end is read whole
 --   lists-read    two lists about a `/` are read whole, the first up to it and the second after it
---   end-fits, family-fits, number-fits, slash-fits, here-fits, nowhere-fits, list-fits    the words that fit a pattern: none at its end, then by its first letter a family, a number, the `/`, `here`, `nowhere`, or 80 numbers at most, and after them what fits the rest
+--   end-fits, family-fits, number-fits, slash-fits, here-fits, nowhere-fits, raw-fits, list-fits    the words that fit a pattern: none at its end, then by its first letter a family, a number, the `/`, `here`, `nowhere`, `raw`, or 80 numbers at most, and after them what fits the rest
 use mathlib.Core.Bool.{Bool, true, false}
 use mathlib.Core.Path.{_≡_, refl, sym, ap, ap₂, subst, _∙_}
 use mathlib.Core.Logic.{_⊎_, inl, inr}
@@ -25,7 +25,7 @@ use Rattle.text.specs.Numeral.{valueFrom, Numeral}
 use Rattle.text.proofs.Found.{found-first}
 use Rattle.requests.specs.declared.Begun.the-variants as begun
 use Rattle.requests.specs.declared.Rest.the-variants as taken
-use Rattle.requests.specs.Protocol.{textsFrom, Word, number, family, slash, here, nowhere, Spells, AllSpell, Lent, enough, places, Opens, Asks}
+use Rattle.requests.specs.Protocol.{textsFrom, Word, number, family, slash, here, nowhere, raw, Spells, AllSpell, Lent, enough, places, Opens, Asks}
 use Rattle.requests.specs.Parts.{BeginsAt, Begins, kindsOf, valuesOf, TakesAll, Takes, familyAt}
 use Rattle.requests.specs.Patterns.{numbersIn, fits}
 use Rattle.requests.proofs.Fitting.{fits-list}
@@ -34,7 +34,7 @@ use Rattle.requests.proofs.Fitting.{fits-list}
 
 -- the word that is no number, by its first byte
 byFirst : ℕ → Word
-byFirst b = pick (eqb b 102) (family Forbidden) (pick (eqb b 97) (family Allowed) (pick (eqb b 104) here (pick (eqb b 110) nowhere slash)))
+byFirst b = pick (eqb b 102) (family Forbidden) (pick (eqb b 97) (family Allowed) (pick (eqb b 104) here (pick (eqb b 110) nowhere (pick (eqb b 114) raw slash))))
 
 -- a first byte that is no digit
 abbrev NoDigit : ℕ → Type 0
@@ -52,6 +52,7 @@ told t (family Allowed) s = subst (λ (u : List ℕ). Told u (family Allowed)) (
 told t slash s = subst (λ (u : List ℕ). Told u slash) (sym s) (inr (refl, inl (omega arith)))
 told t here s = subst (λ (u : List ℕ). Told u here) (sym s) (inr (refl, inr (omega arith)))
 told t nowhere s = subst (λ (u : List ℕ). Told u nowhere) (sym s) (inr (refl, inr (omega arith)))
+told t raw s = subst (λ (u : List ℕ). Told u raw) (sym s) (inr (refl, inr (omega arith)))
 
 -- a numeral begins with a digit
 begins-with-digit : (t : List ℕ) (n : ℕ) → Numeral t n → NoDigit (getD t 0 0) → ⊥
@@ -174,6 +175,7 @@ family-fits p (family Allowed ∷ xs) e = (Allowed, xs, refl, e)
 family-fits p (slash ∷ xs) e = never e
 family-fits p (here ∷ xs) e = never e
 family-fits p (nowhere ∷ xs) e = never e
+family-fits p (raw ∷ xs) e = never e
 
 pub number-fits : (p : List ℕ) (xs : List Word) → fits (110 ∷ p) (kindsOf xs) ≡ true → (n : ℕ) × (ys : List Word) × (xs ≡ number n ∷ ys) × (fits p (kindsOf ys) ≡ true)
 unfolding fits
@@ -184,6 +186,7 @@ number-fits p (family Allowed ∷ xs) e = never e
 number-fits p (slash ∷ xs) e = never e
 number-fits p (here ∷ xs) e = never e
 number-fits p (nowhere ∷ xs) e = never e
+number-fits p (raw ∷ xs) e = never e
 
 pub slash-fits : (p : List ℕ) (xs : List Word) → fits (47 ∷ p) (kindsOf xs) ≡ true → (ys : List Word) × (xs ≡ slash ∷ ys) × (fits p (kindsOf ys) ≡ true)
 unfolding fits
@@ -194,6 +197,7 @@ slash-fits p (family Allowed ∷ xs) e = never e
 slash-fits p (slash ∷ xs) e = (xs, refl, e)
 slash-fits p (here ∷ xs) e = never e
 slash-fits p (nowhere ∷ xs) e = never e
+slash-fits p (raw ∷ xs) e = never e
 
 pub here-fits : (p : List ℕ) (xs : List Word) → fits (104 ∷ p) (kindsOf xs) ≡ true → (ys : List Word) × (xs ≡ here ∷ ys) × (fits p (kindsOf ys) ≡ true)
 unfolding fits
@@ -204,6 +208,7 @@ here-fits p (family Allowed ∷ xs) e = never e
 here-fits p (slash ∷ xs) e = never e
 here-fits p (here ∷ xs) e = (xs, refl, e)
 here-fits p (nowhere ∷ xs) e = never e
+here-fits p (raw ∷ xs) e = never e
 
 pub nowhere-fits : (p : List ℕ) (xs : List Word) → fits (119 ∷ p) (kindsOf xs) ≡ true → (ys : List Word) × (xs ≡ nowhere ∷ ys) × (fits p (kindsOf ys) ≡ true)
 unfolding fits
@@ -214,6 +219,18 @@ nowhere-fits p (family Allowed ∷ xs) e = never e
 nowhere-fits p (slash ∷ xs) e = never e
 nowhere-fits p (here ∷ xs) e = never e
 nowhere-fits p (nowhere ∷ xs) e = (xs, refl, e)
+nowhere-fits p (raw ∷ xs) e = never e
+
+pub raw-fits : (p : List ℕ) (xs : List Word) → fits (114 ∷ p) (kindsOf xs) ≡ true → (ys : List Word) × (xs ≡ raw ∷ ys) × (fits p (kindsOf ys) ≡ true)
+unfolding fits
+raw-fits p [] e = never e
+raw-fits p (number n ∷ xs) e = never e
+raw-fits p (family Forbidden ∷ xs) e = never e
+raw-fits p (family Allowed ∷ xs) e = never e
+raw-fits p (slash ∷ xs) e = never e
+raw-fits p (here ∷ xs) e = never e
+raw-fits p (nowhere ∷ xs) e = never e
+raw-fits p (raw ∷ xs) e = (xs, refl, e)
 
 -- the numbers that words begin with, and the words after them
 numbers-first : (xs : List Word) → (w : List ℕ) × (ys : List Word) × (xs ≡ map number w ++ ys) × (length w ≡ numbersIn (kindsOf xs)) × (drop (numbersIn (kindsOf xs)) (kindsOf xs) ≡ kindsOf ys)
@@ -229,6 +246,7 @@ numbers-first (family Allowed ∷ xs) = ([], family Allowed ∷ xs, refl, refl, 
 numbers-first (slash ∷ xs) = ([], slash ∷ xs, refl, refl, refl)
 numbers-first (here ∷ xs) = ([], here ∷ xs, refl, refl, refl)
 numbers-first (nowhere ∷ xs) = ([], nowhere ∷ xs, refl, refl, refl)
+numbers-first (raw ∷ xs) = ([], raw ∷ xs, refl, refl, refl)
 
 pub list-fits : (p : List ℕ) (xs : List Word) → fits (42 ∷ p) (kindsOf xs) ≡ true → (w : List ℕ) × (ys : List Word) × (xs ≡ map number w ++ ys) × (length w ≤ 80) × (fits p (kindsOf ys) ≡ true)
 list-fits p xs e = go (ltb 80 (numbersIn (kindsOf xs))) refl (numbers-first xs)

@@ -3,7 +3,7 @@
 --   Begins line r    r is where the verb stands and how many places the request is lent, and bad exactly if no request begins so
 --   VerbAt line room from r    the same of a verb that is looked for at a place, of a request that is lent so many places
 --   AfterRoom line at r    the same of a number at a place and the verb after it
---   kindOf x, valueOf x    the kind of a word: n a number, f and a the families, / itself, h and w `here` and `nowhere`; a number is its value, and 0 that of the others
+--   kindOf x, valueOf x    the kind of a word: n a number, f and a the families, / itself, h and w `here` and `nowhere`, r `raw`; a number is its value, and 0 that of the others
 --   kindsOf xs, valuesOf xs    those of a list of words
 --   KindOf text k    k is the kind of the word other than a number that a text says, and 0 exactly if it says none
 --   TakenIn text i kinds values kinds′ values′ r    whether the text says a word, whose kind and value then stand at place i
@@ -24,7 +24,7 @@ use Rattle.requests.specs.declared.Begun.{Begun}
 use Rattle.requests.specs.declared.Begun.the-variants as begun
 use Rattle.requests.specs.declared.Rest.{Rest}
 use Rattle.requests.specs.declared.Rest.the-variants as rest
-use Rattle.requests.specs.Protocol.{textsFrom, Word, number, family, slash, here, nowhere, hereName, nowhereName, Spells, AllSpell, Lent, enough, places, roomName, Opens}
+use Rattle.requests.specs.Protocol.{textsFrom, Word, number, family, slash, here, nowhere, raw, hereName, nowhereName, rawName, Spells, AllSpell, Lent, enough, places, roomName, Opens}
 
 abbrev pub roomOf : Lent → ℕ
 roomOf enough = 2 ^ 64 - 1
@@ -70,6 +70,7 @@ kindOf (family Allowed) = 97
 kindOf slash = 47
 kindOf here = 104
 kindOf nowhere = 119
+kindOf raw = 114
 
 abbrev pub valueOf : Word → ℕ
 valueOf (number n) = n
@@ -77,6 +78,7 @@ valueOf (family F) = 0
 valueOf slash = 0
 valueOf here = 0
 valueOf nowhere = 0
+valueOf raw = 0
 
 abbrev pub kindsOf : List Word → List ℕ
 kindsOf xs = map kindOf xs
@@ -96,6 +98,7 @@ pub record KindOf (text : List ℕ) (k : ℕ) : Type 0 where
   pub no-slash : k ≡ 0 → text ≡ 47 ∷ [] → ⊥
   pub no-here : k ≡ 0 → text ≡ hereName → ⊥
   pub no-nowhere : k ≡ 0 → text ≡ nowhereName → ⊥
+  pub no-raw : k ≡ 0 → text ≡ rawName → ⊥
 
 pub record WordIn (text : List ℕ) (i : ℕ) (kinds values kinds′ values′ : List ℕ) : Type 0 where
   pub word : Word

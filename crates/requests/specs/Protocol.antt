@@ -1,9 +1,9 @@
 -- The line of a request as a list of bytes (docs/RULES.md, section 13): what its words are, and what they say. Assumes nothing.
 --   textsOf line    the texts of a line, one space between two of them: an empty line is one empty text
 --   textsFrom line from    the texts of what stands from place `from` on; past the end, which is where no space is left, there are none
---   Word    what a text after the verb says: a number, a family, the lone `/`, or the place of a walk, `here` or `nowhere`
---   hereName, nowhereName    the bytes of `here` and of `nowhere`
---   Spells text x    the text says x: a number in decimal below 2 ^ 64 with no zero in front, a family by its name, `/`, `here` and `nowhere` by themselves
+--   Word    what a text after the verb says: a number, a family, the lone `/`, the place of a walk, `here` or `nowhere`, or `raw`, behind which a record of any content stands
+--   hereName, nowhereName, rawName    the bytes of `here`, of `nowhere` and of `raw`
+--   Spells text x    the text says x: a number in decimal below 2 ^ 64 with no zero in front, a family by its name, `/`, `here`, `nowhere` and `raw` by themselves
 --   AllSpell texts xs    the texts say the words xs, one each
 --   Lent    what a request is lent: what suffices, or so many places
 --   roomName, Lends texts lent verb rest    the texts are the verb and the rest, after `room` and the number of places where it is lent so many
@@ -39,6 +39,7 @@ pub data Word : Type 0 where
   slash : Word
   here : Word
   nowhere : Word
+  raw : Word
 
 abbrev pub hereName : List ℕ
 hereName = 104 ∷ 101 ∷ 114 ∷ 101 ∷ []
@@ -46,12 +47,16 @@ hereName = 104 ∷ 101 ∷ 114 ∷ 101 ∷ []
 abbrev pub nowhereName : List ℕ
 nowhereName = 110 ∷ 111 ∷ 119 ∷ 104 ∷ 101 ∷ 114 ∷ 101 ∷ []
 
+abbrev pub rawName : List ℕ
+rawName = 114 ∷ 97 ∷ 119 ∷ []
+
 abbrev pub Spells : List ℕ → Word → Type 0
 Spells text (number n) = Numeral text n × (n < 2 ^ 64)
 Spells text (family F) = text ≡ nameOf F
 Spells text slash = text ≡ 47 ∷ []
 Spells text here = text ≡ hereName
 Spells text nowhere = text ≡ nowhereName
+Spells text raw = text ≡ rawName
 
 abbrev pub AllSpell : List (List ℕ) → List Word → Type 0
 AllSpell [] [] = Unit {0}

@@ -1,5 +1,5 @@
 // A request (docs/RULES.md, section 13), taken apart once: the words after its verb, each with a byte for its kind and its value.
-// The kinds: n a number, f and a the families, / itself, h and w the places of a walk (here, nowhere).
+// The kinds: n a number, f and a the families, / itself, h and w the places of a walk (here, nowhere), r the word raw.
 ghost use mathlib.Core.Path.{_≡_};
 ghost use mathlib.Core.Bool.{true};
 ghost use Prim.Native.Nat.{_+_, _<_, _≤_};
@@ -80,6 +80,9 @@ fn kind(word: &[u8]) -> u8
     }
     if check::same(word, b"nowhere") {
         return b'w';
+    }
+    if check::same(word, b"raw") {
+        return b'r';
     }
     match text::family(word) {
         Named::Family(f) => match f {
