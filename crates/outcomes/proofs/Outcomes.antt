@@ -16,7 +16,7 @@ use Rattle.text.specs.declared.Number.{Number}
 use Rattle.text.specs.declared.Number.the-variants as number
 use Rattle.text.specs.Numeral.{Reads}
 use Rattle.answers.specs.declared.Refusal.{Refusal}
-use Rattle.answers.specs.declared.Refusal.the-variants.{TooWide, NotMonotone, NoSuchRank, Last, Repeated, FamilyDiffers, Outside, Shape, TooBig, NotAPermutation}
+use Rattle.answers.specs.declared.Refusal.the-variants.{TooWide, NotMonotone, NoSuchRank, Last, Repeated, FamilyDiffers, Outside, Shape, TooBig, NotAPermutation, BadImage, NoSuchTable}
 use Rattle.answers.specs.declared.Answer.{Answer}
 use Rattle.answers.specs.declared.Answer.the-variants as answer
 use Rattle.answers.specs.declared.Indexed.{Indexed}
@@ -51,7 +51,7 @@ use Rattle.permutation.specs.Record.{verdictSays, signsSays, Arranges}
 refusalOf : ℕ → List ℕ → Refusal
 refusalOf n c =
     getD
-    (TooWide ∷ TooWide ∷ NotMonotone (placeOf c) ∷ NoSuchRank ∷ Last ∷ Repeated ∷ FamilyDiffers ∷ Outside ∷ Shape ∷ TooBig ∷ NotAPermutation ∷ [])
+    (TooWide ∷ TooWide ∷ NotMonotone (placeOf c) ∷ NoSuchRank ∷ Last ∷ Repeated ∷ FamilyDiffers ∷ Outside ∷ Shape ∷ TooBig ∷ NotAPermutation ∷ BadImage (placeOf c) ∷ NoSuchTable ∷ [])
     n TooWide
 
 refusal-back : (e : Refusal) → refusalOf (numberOf e) (carriedBy e) ≡ e
@@ -66,6 +66,8 @@ refusal-back Outside = refl
 refusal-back Shape = refl
 refusal-back TooBig = refl
 refusal-back NotAPermutation = refl
+refusal-back (BadImage at) = refl
+refusal-back NoSuchTable = refl
 
 pub one-refusal : (d e : Refusal) → numberOf d ≡ numberOf e → carriedBy d ≡ carriedBy e → d ≡ e
 one-refusal d e n c = sym (refusal-back d) ∙ ap₂ refusalOf n c ∙ refusal-back e
