@@ -23,10 +23,10 @@ use Rattle.answers.specs.declared.Sign.{Sign}
 use Rattle.answers.specs.declared.Sign.the-variants.{Plus, Minus}
 use Rattle.answers.specs.declared.Index.{Index}
 use Rattle.answers.specs.Says.{Says, refusesWith, gives, Term, placeOf}
-use Rattle.monotone.specs.declared.Current.{Current}
-use Rattle.monotone.specs.declared.Current.the-variants.{At, Nothing}
-use Rattle.monotone.specs.declared.Walk.{Walk}
-use Rattle.monotone.specs.Walks.{Moved}
+use Rattle.monotone_walk.specs.declared.Current.{Current}
+use Rattle.monotone_walk.specs.declared.Current.the-variants.{At, Nothing}
+use Rattle.monotone_walk.specs.declared.Walk.{Walk}
+use Rattle.monotone_walk.specs.Walks.{Moved}
 use Rattle.deletion.specs.Rules.{Removed}
 use Rattle.boundary.specs.declared.Status.{Status}
 

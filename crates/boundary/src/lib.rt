@@ -2,7 +2,7 @@
 // caller's, which is written only on an answer.
 ghost use mathlib.Core.Path.{_≡_};
 ghost use Rattle.answers.specs.Says.{numberOf, carriedBy, answerSays, indexedSays, signedSays};
-ghost use Rattle.monotone.specs.Walks.{startedSays, steppedSays};
+ghost use Rattle.monotone_walk.specs.Walks.{startedSays, steppedSays};
 ghost use Rattle.deletion.specs.Rules.{deletedSays};
 ghost use Rattle.boundary.specs.Boundary.{familyOf, answered, refusedWith, status, stored, itself, indexAt, minus};
 ghost use Rattle.boundary.specs.Boundary.{alphabetOfIndex, bitsOfIndex, minusOfTerm, alphabetOfTerm, bitsOfTerm};
@@ -16,10 +16,10 @@ use answers::Refusal;
 use answers::Sign;
 use answers::Signed;
 use deletion::Deleted;
-use monotone::Current;
-use monotone::Started;
-use monotone::Stepped;
-use monotone::Walk;
+use monotone_walk::Current;
+use monotone_walk::Started;
+use monotone_walk::Stepped;
+use monotone_walk::Walk;
 use words::Family;
 
 // What comes back from every call: the number of a refusal, 0 for an answer, and the place that the refusal carries, 0 if it carries none.

@@ -3,7 +3,8 @@
 ghost use mathlib.Core.Path.{_≡_};
 ghost use lib.ListN.{length};
 ghost use Rattle.answers.specs.Says.{after, placesOf};
-ghost use Rattle.composition.specs.Rules.{wordSays, fromWordSays, rankSays, fromRankSays, addSays};
+ghost use Rattle.composition.specs.Rules.{wordSays, fromWordSays, addSays};
+ghost use Rattle.composition_rank.specs.Rules.{rankSays, fromRankSays};
 ghost use Rattle.boundary.specs.Boundary.{status, stored, itself};
 use boundary::Status;
 
@@ -43,7 +44,7 @@ pub extern "C" fn gudrenoss_exponents_rank(entries: &[u64], rank: &mut u64) -> S
     ensures back { λ r. ⌜ r ≡ status (rankSays (now (entries .entry))) ⌝ }
     ensures holds { λ r. ⌜ now (rank .exit) ≡ stored itself (rankSays (now (entries .entry))) (now (rank .entry)) ⌝ }
 {
-    boundary::number(composition::rank(entries), rank)
+    boundary::number(composition_rank::rank(entries), rank)
 }
 
 // The n exponents of the Allowed word of k symbols that has rank r: 1 if n and k are too wide; 3 if r is not below the count; 8 if the output has fewer than n places.
@@ -59,7 +60,7 @@ pub extern "C" fn gudrenoss_exponents_from_rank(
     ensures written { λ a. ⌜ now (written .exit) ≡ stored itself (placesOf (fromRankSays n k r (length (now (entries .entry))))) (now (written .entry)) ⌝ }
     ensures holds { λ a. ⌜ now (entries .exit) ≡ after (fromRankSays n k r (length (now (entries .entry)))) (now (entries .entry)) ⌝ }
 {
-    boundary::number(composition::from_rank(n, k, r, entries), written)
+    boundary::number(composition_rank::from_rank(n, k, r, entries), written)
 }
 
 // The sum of two lists of exponents: 1 if the first is too wide; 1 if the second is; 8 if they have not equally many entries; 1 if the sum is too wide; 8 if the output

@@ -2,7 +2,8 @@
 // entries up to the length are a bijection of 0 .. length - 1. A result is written to such places, all 64 of them, and its length beside them; the places past it are 0.
 ghost use mathlib.Core.Path.{_≡_};
 ghost use Rattle.permutation.specs.Record.{arrangedSays, signsSays};
-ghost use Rattle.permutation.specs.Rules.{imageSays, inverseSays, composeSays, signSays};
+ghost use Rattle.permutation.specs.Rules.{imageSays};
+ghost use Rattle.permutation_group.specs.Rules.{inverseSays, composeSays, signSays};
 ghost use Rattle.permutation_order.specs.Rules.{rankSays, unrankSays, successorSays};
 ghost use Rattle.boundary.specs.Boundary.{status, stored, itself, minus as isMinus};
 ghost use Rattle.capi.specs.Permutations.{lentAs, entriesOf, lengthOf};
@@ -82,7 +83,7 @@ pub extern "C" fn gudrenoss_permutation_inverse(
     ensures holds { λ r. ⌜ now (entries .exit) ≡ stored entriesOf (inverseSays (lentAs (now (p .entry)) n)) (now (entries .entry)) ⌝ }
     ensures long { λ r. ⌜ now (len .exit) ≡ stored lengthOf (inverseSays (lentAs (now (p .entry)) n)) (now (len .entry)) ⌝ }
 {
-    arranged(permutation::inverse(lent(p, n)), entries, len)
+    arranged(permutation_group::inverse(lent(p, n)), entries, len)
 }
 
 // p after q, which sends i to p(q(i)): 1 if either length is above 64; 8 if the lengths differ; 10 if either is not good.
@@ -99,7 +100,11 @@ pub extern "C" fn gudrenoss_permutation_compose(
     ensures holds { λ r. ⌜ now (entries .exit) ≡ stored entriesOf (composeSays (lentAs (now (p .entry)) n) (lentAs (now (q .entry)) m)) (now (entries .entry)) ⌝ }
     ensures long { λ r. ⌜ now (len .exit) ≡ stored lengthOf (composeSays (lentAs (now (p .entry)) n) (lentAs (now (q .entry)) m)) (now (len .entry)) ⌝ }
 {
-    arranged(permutation::compose(lent(p, n), lent(q, m)), entries, len)
+    arranged(
+        permutation_group::compose(lent(p, n), lent(q, m)),
+        entries,
+        len,
+    )
 }
 
 // The sign of the number of inversions, as whether it is minus: 1 if the length is above 64; 10 if p is not good.
@@ -112,7 +117,7 @@ pub extern "C" fn gudrenoss_permutation_sign(
     ensures back { λ r. ⌜ r ≡ status (signSays (lentAs (now (p .entry)) n)) ⌝ }
     ensures holds { λ r. ⌜ now (minus .exit) ≡ stored isMinus (signSays (lentAs (now (p .entry)) n)) (now (minus .entry)) ⌝ }
 {
-    signed(permutation::sign(lent(p, n)), minus)
+    signed(permutation_group::sign(lent(p, n)), minus)
 }
 
 // The rank in colex order: 1 if the length is above 20; 10 if p is not good.

@@ -2,7 +2,8 @@
 ghost use mathlib.Core.Path.{_≡_};
 ghost use lib.ListN.{length};
 ghost use Rattle.answers.specs.Says.{after, placesOf};
-ghost use Rattle.cartesian.specs.Rules.{countSays, stridesSays, linearizeSays, delinearizeSays, cornerSays};
+ghost use Rattle.cartesian.specs.Rules.{countSays, linearizeSays, delinearizeSays};
+ghost use Rattle.cartesian_strides.specs.Rules.{stridesSays, cornerSays};
 ghost use Rattle.boundary.specs.Boundary.{status, stored, itself};
 use boundary::Status;
 
@@ -27,7 +28,7 @@ pub extern "C" fn gudrenoss_shape_strides(
     ensures written { λ r. ⌜ now (written .exit) ≡ stored itself (placesOf (stridesSays (now (radices .entry)) (length (now (strides .entry))))) (now (written .entry)) ⌝ }
     ensures holds { λ r. ⌜ now (strides .exit) ≡ after (stridesSays (now (radices .entry)) (length (now (strides .entry)))) (now (strides .entry)) ⌝ }
 {
-    boundary::number(cartesian::strides(radices, strides), written)
+    boundary::number(cartesian_strides::strides(radices, strides), written)
 }
 
 // The number of a digit tuple: 1 if there are more than 16 axes; 8 if there are not as many digits as axes; 7 if a digit is not below its radix; 9 if the product
@@ -67,5 +68,5 @@ pub extern "C" fn gudrenoss_shape_corner(radices: &[u64], axes: u64, offset: &mu
     ensures back { λ r. ⌜ r ≡ status (cornerSays (now (radices .entry)) axes) ⌝ }
     ensures holds { λ r. ⌜ now (offset .exit) ≡ stored itself (cornerSays (now (radices .entry)) axes) (now (offset .entry)) ⌝ }
 {
-    boundary::number(cartesian::corner(radices, axes), offset)
+    boundary::number(cartesian_strides::corner(radices, axes), offset)
 }

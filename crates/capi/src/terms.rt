@@ -5,8 +5,12 @@
 ghost use mathlib.Core.Path.{_≡_};
 ghost use lib.ListN.{length};
 ghost use Rattle.answers.specs.Says.{after, placesOf};
-ghost use Rattle.monotone.specs.Rules.{countSays, packSays, degreeSays, unpackSays, symbolSays, rankSays, rankOfSays, unrankOverSays, unrankSays, unrankAnySays, successorSays};
-ghost use Rattle.monotone.specs.Walks.{walkSays, stepSays};
+ghost use Rattle.monotone_count.specs.Rules.{countSays, walkSays};
+ghost use Rattle.monotone.specs.Rules.{packSays, degreeSays, unpackSays, symbolSays};
+ghost use Rattle.monotone_rank.specs.Rules.{rankSays, rankOfSays};
+ghost use Rattle.monotone_unrank.specs.Rules.{unrankOverSays, unrankSays, unrankAnySays};
+ghost use Rattle.monotone_walk.specs.Rules.{successorSays};
+ghost use Rattle.monotone_walk.specs.Walks.{stepSays};
 ghost use Rattle.boundary.specs.Boundary.{familyOf, indexAt, status, stored, itself, alphabetOfIndex, bitsOfIndex};
 ghost use Rattle.boundary.specs.Boundary.{walkAt, standingOf, overOf, atOf, remainingOf, alphabetGiven, bitsGiven, standingAfter, overAfter, atAfter, remainingAfter};
 use boundary::Status;
@@ -17,7 +21,10 @@ pub extern "C" fn gudrenoss_count(allowed: bool, n: u64, k: u64, count: &mut u64
     ensures back { λ r. ⌜ r ≡ status (countSays (familyOf allowed) n k) ⌝ }
     ensures holds { λ r. ⌜ now (count .exit) ≡ stored itself (countSays (familyOf allowed) n k) (now (count .entry)) ⌝ }
 {
-    boundary::number(monotone::count(boundary::family(allowed), n, k), count)
+    boundary::number(
+        monotone_count::count(boundary::family(allowed), n, k),
+        count,
+    )
 }
 
 // The index of a word over n, as its alphabet n and its bits: 1 if the word has more than 64 symbols or the shifted alphabet is above 64; 2 if it breaks its family's
@@ -93,7 +100,7 @@ pub extern "C" fn gudrenoss_rank(allowed: bool, word: &[u64], rank: &mut u64) ->
     ensures back { λ r. ⌜ r ≡ status (rankSays (familyOf allowed) (now (word .entry))) ⌝ }
     ensures holds { λ r. ⌜ now (rank .exit) ≡ stored itself (rankSays (familyOf allowed) (now (word .entry))) (now (rank .entry)) ⌝ }
 {
-    boundary::number(monotone::rank(boundary::family(allowed), word), rank)
+    boundary::number(monotone_rank::rank(boundary::family(allowed), word), rank)
 }
 
 // The rank of the word of an index, which does not depend on its n: taken.
@@ -102,7 +109,10 @@ pub extern "C" fn gudrenoss_rank_of(allowed: bool, n: u64, bits: u64, rank: &mut
     ensures back { λ r. ⌜ r ≡ status (rankOfSays (indexAt allowed n bits)) ⌝ }
     ensures holds { λ r. ⌜ now (rank .exit) ≡ stored itself (rankOfSays (indexAt allowed n bits)) (now (rank .entry)) ⌝ }
 {
-    boundary::number(monotone::rank_of(boundary::index(allowed, n, bits)), rank)
+    boundary::number(
+        monotone_rank::rank_of(boundary::index(allowed, n, bits)),
+        rank,
+    )
 }
 
 // The word of k symbols below n that has the rank r, and how many places it takes: 1 as in the count; 3 if r is not below that; 8 if the lent word is shorter.
@@ -120,7 +130,7 @@ pub extern "C" fn gudrenoss_unrank(
     ensures holds { λ a. ⌜ now (word .exit) ≡ after (unrankSays (familyOf allowed) n k r (length (now (word .entry)))) (now (word .entry)) ⌝ }
 {
     boundary::number(
-        monotone::unrank(boundary::family(allowed), n, k, r, word),
+        monotone_unrank::unrank(boundary::family(allowed), n, k, r, word),
         written,
     )
 }
@@ -140,7 +150,7 @@ pub extern "C" fn gudrenoss_unrank_over(
     ensures bits { λ a. ⌜ now (bits .exit) ≡ stored bitsOfIndex (unrankOverSays (familyOf allowed) n k r) (now (bits .entry)) ⌝ }
 {
     boundary::indexed(
-        monotone::unrank_over(boundary::family(allowed), n, k, r),
+        monotone_unrank::unrank_over(boundary::family(allowed), n, k, r),
         alphabet,
         bits,
     )
@@ -161,7 +171,7 @@ pub extern "C" fn gudrenoss_unrank_any(
     ensures bits { λ a. ⌜ now (bits .exit) ≡ stored bitsOfIndex (unrankAnySays (familyOf allowed) k r) (now (bits .entry)) ⌝ }
 {
     boundary::indexed(
-        monotone::unrank_any(boundary::family(allowed), k, r),
+        monotone_unrank::unrank_any(boundary::family(allowed), k, r),
         alphabet,
         bits,
     )
@@ -181,7 +191,7 @@ pub extern "C" fn gudrenoss_successor(
     ensures bits { λ r. ⌜ now («next_bits» .exit) ≡ stored bitsOfIndex (successorSays (indexAt allowed n bits)) (now («next_bits» .entry)) ⌝ }
 {
     boundary::indexed(
-        monotone::successor(boundary::index(allowed, n, bits)),
+        monotone_walk::successor(boundary::index(allowed, n, bits)),
         next_alphabet,
         next_bits,
     )
@@ -205,7 +215,7 @@ pub extern "C" fn gudrenoss_walk_start(
     ensures remaining { λ r. ⌜ now (remaining .exit) ≡ stored remainingOf (walkSays (familyOf allowed) n k) (now (remaining .entry)) ⌝ }
 {
     boundary::started(
-        monotone::start(boundary::family(allowed), n, k),
+        monotone_count::start(boundary::family(allowed), n, k),
         standing,
         over,
         at,
@@ -235,7 +245,7 @@ pub extern "C" fn gudrenoss_walk_step(
 {
     let state = boundary::walk(allowed, *standing, *over, *at, *remaining);
     boundary::stepped(
-        monotone::step(state),
+        monotone_walk::step(state),
         standing,
         over,
         at,

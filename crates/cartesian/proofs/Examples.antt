@@ -3,11 +3,9 @@ use mathlib.Core.Path.{_≡_, refl}
 use mathlib.Core.List.{List, [], _∷_}
 use Prim.Native.Nat.{ℕ, _^_}
 use lib.ListN.{replicate}
-use Rattle.words.specs.Bits.{onesFrom}
-use Rattle.bits.specs.Member.{reaches}
-use Rattle.positional.specs.Positional.{product, digitsOf, cornerOf}
+use Rattle.positional.specs.Positional.{product, digitsOf}
 use Rattle.answers.specs.Says.{refuses, gives}
-use Rattle.cartesian.specs.Rules.{countSays, stridesSays, linearizeSays, delinearizeSays, cornerSays}
+use Rattle.cartesian.specs.Rules.{countSays, linearizeSays, delinearizeSays}
 
 abbrev cube : List ℕ
 cube = 2 ∷ 3 ∷ 4 ∷ []
@@ -16,15 +14,7 @@ cube-tuple : delinearizeSays cube 23 3 ≡ gives (1 ∷ 2 ∷ 3 ∷ [])
 unfolding product digitsOf
 cube-tuple = refl
 
-cube-corner : cornerSays cube 6 ≡ gives 8
-unfolding product cornerOf onesFrom reaches
-cube-corner = refl
-
 -- ---- the rule for 9
-
-wide-strides : stridesSays (2 ^ 63 ∷ 2 ∷ []) 2 ≡ gives (1 ∷ 2 ^ 63 ∷ [])
-unfolding product
-wide-strides = refl
 
 wide-count : countSays (2 ^ 63 ∷ 2 ∷ []) ≡ refuses 9
 unfolding product
@@ -61,37 +51,11 @@ no-tuple-of-low-zero = refl
 no-number-of-zeros : linearizeSays high-zero (0 ∷ 0 ∷ 0 ∷ []) ≡ refuses 7
 no-number-of-zeros = refl
 
--- each stride is handed out, so a zero after them does not help; one before them does
-strides-before-zero : stridesSays high-zero 3 ≡ refuses 9
-unfolding product
-strides-before-zero = refl
-
-strides-past-zero : stridesSays (2 ^ 40 ∷ 0 ∷ 2 ^ 40 ∷ 2 ^ 40 ∷ []) 4 ≡ gives (1 ∷ 2 ^ 40 ∷ 0 ∷ 0 ∷ [])
-unfolding product
-strides-past-zero = refl
-
--- a stride past 2^64 that falls back to 0
-corner-past-zero : cornerSays (2 ^ 40 ∷ 2 ^ 40 ∷ 0 ∷ 1 ∷ []) 8 ≡ gives 0
-unfolding product cornerOf onesFrom reaches
-corner-past-zero = refl
-
-corner-before-zero : cornerSays (2 ^ 40 ∷ 2 ^ 40 ∷ 0 ∷ 1 ∷ []) 4 ≡ refuses 9
-unfolding product cornerOf onesFrom reaches
-corner-before-zero = refl
-
-corner-of-none : cornerSays (2 ^ 40 ∷ 2 ^ 40 ∷ 0 ∷ 1 ∷ []) 0 ≡ gives 0
-unfolding product cornerOf onesFrom reaches
-corner-of-none = refl
-
 -- ---- no axes, and too many
 
 no-axes-count : countSays [] ≡ gives 1
 unfolding product
 no-axes-count = refl
-
-no-axes-strides : stridesSays [] 0 ≡ gives []
-unfolding product
-no-axes-strides = refl
 
 no-axes-tuple : delinearizeSays [] 0 0 ≡ gives []
 unfolding product digitsOf

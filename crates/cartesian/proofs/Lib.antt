@@ -2,7 +2,6 @@ pub mod Fits
 pub mod Products
 pub mod Tuples
 pub mod Writing
-pub mod Corners
 pub mod Rules
 pub mod Promises
 pub mod Examples

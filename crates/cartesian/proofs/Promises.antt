@@ -9,7 +9,6 @@
 --   linearize-answers, delinearize-answers    where the shape has a count, each tuple has a number below it, and each number below it a tuple
 --   delinearize-of-linearize, linearize-of-delinearize    the two are inverse where they answer
 --   linearize-by-strides    the number of a tuple is the sum of its digits times their strides
---   corner-is-a-number    the offset of a corner is the number whose digits are 1 at the chosen axes and 0 at the others
 use mathlib.Core.Path.{_≡_, refl, sym, ap, subst, _∙_}
 use mathlib.Core.Bool.{Bool, true, false}
 use mathlib.Core.Logic.{_↔_}
@@ -17,7 +16,7 @@ use mathlib.Core.List.{List}
 use Prim.Native.Nat.{ℕ, _<_, _≤_, zero-le}
 use native.Mathlib.Omega.{arith}
 use borrow.Author.Tests.{le-ltb, le-leb, eq-eqb}
-use lib.ListN.{length, getD, replicate}
+use lib.ListN.{length, getD}
 use Rattle.words.specs.Colex.{ColexLt}
 use Rattle.words.specs.HowMany.{HowMany}
 use Rattle.words.proofs.Colex.{to-colex, from-colex}
@@ -26,13 +25,12 @@ use Rattle.positional.specs.Positional.{product, strides, Digits, numberOf, wei
 use Rattle.positional.proofs.Digits.{digit-below, number-below, digits-good, number-of-digits, digits-of-number}
 use Rattle.positional.proofs.Counted.{number-rises, before-of-number, product-is-how-many-digits, number-is-how-many-earlier}
 use Rattle.positional.proofs.Strides.{zero-radix, number-is-weighed}
-use Rattle.positional.proofs.Corner.{corner-is-number}
 use Rattle.answers.specs.Says.{refuses, gives}
 use Rattle.cartesian.specs.Checks.{fits, within}
-use Rattle.cartesian.specs.Rules.{countSays, linearizeSays, delinearizeSays, cornerSays}
+use Rattle.cartesian.specs.Rules.{countSays, linearizeSays, delinearizeSays}
 use Rattle.cartesian.proofs.Fits.{fits-small}
 use Rattle.cartesian.proofs.Tuples.{within-is-digits}
-use Rattle.cartesian.proofs.Rules.{count-given, Linear, linearize-given, linearize-gives, Delinear, delinearize-given, delinearize-gives, corner-given}
+use Rattle.cartesian.proofs.Rules.{count-given, Linear, linearize-given, linearize-gives, Delinear, delinearize-given, delinearize-gives}
 
 -- ---- what is counted
 
@@ -99,6 +97,3 @@ linearize-of-delinearize rs ds x room e =
 
 pub linearize-by-strides : (rs ds : List ℕ) (x : ℕ) → linearizeSays rs ds ≡ gives x → x ≡ weighed ds (strides rs)
 linearize-by-strides rs ds x e = linearize-given rs ds x e .is ∙ number-is-weighed rs ds
-
-pub corner-is-a-number : (rs : List ℕ) (axes x : ℕ) → cornerSays rs axes ≡ gives x → x ≡ numberOf rs (digitsOf (replicate (length rs) 2) axes)
-corner-is-a-number rs axes x e = corner-given rs axes x e .1 ∙ corner-is-number rs axes (corner-given rs axes x e .0)

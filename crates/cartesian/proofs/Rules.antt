@@ -5,7 +5,6 @@
 --   linearize-given, linearize-gives    what `linearizeSays` gives, and when
 --   Delinear rs x room ds    x is below the count of the shape, there is room, and ds are the digits of x
 --   delinearize-given, delinearize-gives    what `delinearizeSays` gives, and when
---   corner-given    what `cornerSays` gives
 use mathlib.Core.Path.{_≡_, sym}
 use mathlib.Core.Bool.{false, not}
 use mathlib.Core.List.{List}
@@ -14,16 +13,12 @@ use native.Mathlib.Omega.{arith}
 use borrow.Author.Tests.{ltb-false, le-ltb, leb-false, lt-leb, eqb-true, eq-eqb, not-false}
 use lib.Dec.{leb, ltb, eqb}
 use lib.ListN.{length}
-use Rattle.words.specs.Bits.{setBits}
-use Rattle.words.proofs.Bits.{bits-fit, bits-of-set, set-bits-monotone}
-use Rattle.bits.specs.Member.{reaches}
-use Rattle.bits.proofs.Member.{reaches-not}
-use Rattle.positional.specs.Positional.{product, Digits, numberOf, digitsOf, cornerOf}
+use Rattle.positional.specs.Positional.{product, Digits, numberOf, digitsOf}
 use Rattle.positional.proofs.Digits.{digits-long}
 use Rattle.answers.specs.Says.{gives, refusedIf, andThen}
 use Rattle.answers.proofs.Says.{gives-same, passed, then-gave}
 use Rattle.cartesian.specs.Checks.{fits, within}
-use Rattle.cartesian.specs.Rules.{wide, countSays, linearizeSays, delinearizeSays, cornerSays}
+use Rattle.cartesian.specs.Rules.{wide, countSays, linearizeSays, delinearizeSays}
 use Rattle.cartesian.proofs.Fits.{fits-given}
 use Rattle.cartesian.proofs.Tuples.{within-is-digits}
 
@@ -105,18 +100,3 @@ delinearize-given rs x room ds e = go (then-gave (countSays rs) (λ c. refusedIf
 
 pub delinearize-gives : (rs : List ℕ) (x room c : ℕ) → countSays rs ≡ gives c → x < c → length rs ≤ room → delinearizeSays rs x room ≡ gives (digitsOf rs x)
 delinearize-gives rs x room c e h l = simp (e, lt-leb c x h, le-ltb room (length rs) l)
-
--- ---- the offset of a corner
-
-pub corner-given : (rs : List ℕ) (axes x : ℕ) → cornerSays rs axes ≡ gives x → (axes < 2 ^ length rs) × (x ≡ cornerOf rs (setBits axes))
-corner-given rs axes x e = go (passed (wide rs) 1 (refusedIf (reaches (length rs) (setBits axes)) 7 (fits (cornerOf rs (setBits axes)))) x e)
-  where
-    go : (wide rs ≡ false) × (refusedIf (reaches (length rs) (setBits axes)) 7 (fits (cornerOf rs (setBits axes))) ≡ gives x)
-        → (axes < 2 ^ length rs) × (x ≡ cornerOf rs (setBits axes))
-    go p = on (passed (reaches (length rs) (setBits axes)) 7 (fits (cornerOf rs (setBits axes))) x (p .1))
-      where
-        on : (reaches (length rs) (setBits axes) ≡ false) × (fits (cornerOf rs (setBits axes)) ≡ gives x) → (axes < 2 ^ length rs) × (x ≡ cornerOf rs (setBits axes))
-        on q = (
-          omega (arith, bits-of-set axes, bits-fit (length rs) (setBits axes) (set-bits-monotone axes) (reaches-not (length rs) (setBits axes) .0 (q .0))),
-          fits-given (cornerOf rs (setBits axes)) x (q .1) .1,
-        )

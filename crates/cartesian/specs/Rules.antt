@@ -4,19 +4,14 @@
 --   countSays rs    1; 9 if the product of the radices is 2^64 or more; the product
 --   linearizeSays rs ds    1; 8 if there are not as many digits as radices; 7; 9 of the product; the number that has the digits
 --   delinearizeSays rs x room    what the count refuses; 3 if x is not below it; 8; the digits of x
---   stridesSays rs room    1; 9 by the products of the first radices, up to one less than all; 8; the strides
---   cornerSays rs axes    1; 7 if an axis is not below the number of axes; 9 of the exact sum; the sum of the strides of the chosen axes
 use mathlib.Core.Bool.{Bool, not}
 use mathlib.Core.List.{List}
-use Prim.Native.Nat.{ℕ, _-_}
+use Prim.Native.Nat.{ℕ}
 use lib.Dec.{leb, ltb, eqb}
 use lib.ListN.{length}
-use Rattle.words.specs.Bits.{setBits}
-use Rattle.bits.specs.Member.{reaches}
-use Rattle.positional.specs.Positional.{product, strides, cornerOf, numberOf, digitsOf}
+use Rattle.positional.specs.Positional.{product, numberOf, digitsOf}
 use Rattle.answers.specs.Says.{Says, gives, refusedIf, andThen}
 use Rattle.cartesian.specs.Checks.{fits, within}
-use Rattle.cartesian.specs.Partial.{tooBig}
 
 abbrev pub wide : List ℕ → Bool
 wide rs = ltb 16 (length rs)
@@ -37,11 +32,3 @@ linearizeSays rs ds =
 
 abbrev pub delinearizeSays : List ℕ → ℕ → ℕ → Says (List ℕ)
 delinearizeSays rs x room = andThen (countSays rs) (λ c. refusedIf (leb c x) 3 (refusedIf (ltb room (length rs)) 8 (gives (digitsOf rs x))))
-
--- ---- strides and corners
-
-abbrev pub stridesSays : List ℕ → ℕ → Says (List ℕ)
-stridesSays rs room = refusedIf (wide rs) 1 (refusedIf (tooBig rs (length rs - 1)) 9 (refusedIf (ltb room (length rs)) 8 (gives (strides rs))))
-
-abbrev pub cornerSays : List ℕ → ℕ → Says ℕ
-cornerSays rs axes = refusedIf (wide rs) 1 (refusedIf (reaches (length rs) (setBits axes)) 7 (fits (cornerOf rs (setBits axes))))

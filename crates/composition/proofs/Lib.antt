@@ -2,6 +2,5 @@ pub mod Exponents
 pub mod Checks
 pub mod Spelling
 pub mod Tallying
-pub mod Passing
 pub mod Promises
 pub mod Examples

@@ -6,11 +6,11 @@ use mathlib.Core.Path.{_≡_, refl, sym, ap, subst, _∙_}
 use mathlib.Core.Bool.{Bool, true, false, not}
 use mathlib.Core.Logic.{_↔_}
 use mathlib.Core.List.{List, [], _∷_}
-use Prim.Native.Nat.{ℕ, zero, suc, _≤_, _<_}
+use Prim.Native.Nat.{ℕ, zero, suc, _≤_}
 use native.Mathlib.Omega.{arith}
 use borrow.Author.Tests.{ltb-false, le-ltb}
 use lib.Dec.{ltb}
-use lib.ListN.{length, getD}
+use lib.ListN.{length}
 use Rattle.words.specs.declared.Family.{Family}
 use Rattle.words.specs.Word.{shiftedAlphabet}
 use Rattle.words.proofs.Positions.{monotone-at}
@@ -58,8 +58,6 @@ breaks-exactly-there F w a p = (to, from)
         let r : rises F w ≡ false = first-break-breaks F w p (t .1) in
         let e : breakAt F w ≡ p = first-break-is-one F w (breakAt F w) p (breaks-at-the-first-pair F w r) (t .1) in
         simp (le-ltb 64 (length w) (t .0), r, e)
-
--- ---- a word that is given with an alphabet
 
 -- where n's shifted alphabet has room, the checks with n refuse with 2 as those without
 over-breaks : {A : Type 0} (F : Family) (n : ℕ) (w : List ℕ) (a : A) (p : ℕ) → length w ≤ 64 → shiftedAlphabet F n (length w) ≤ 64

@@ -25,11 +25,11 @@ use Rattle.answers.specs.declared.Signed.{Signed}
 use Rattle.answers.specs.declared.Signed.the-variants as signed
 use Rattle.answers.specs.Says.{Says, refusesWith, gives, numberOf, carriedBy, placeOf, answerSays, indexedSays, signedSays, Term}
 use Rattle.answers.proofs.Says.{gives-same, gives-never}
-use Rattle.monotone.specs.declared.Started.{Started}
-use Rattle.monotone.specs.declared.Started.the-variants as started
-use Rattle.monotone.specs.declared.Stepped.{Stepped}
-use Rattle.monotone.specs.declared.Stepped.the-variants as stepped
-use Rattle.monotone.specs.Walks.{Moved, startedSays, steppedSays}
+use Rattle.monotone_walk.specs.declared.Started.{Started}
+use Rattle.monotone_walk.specs.declared.Started.the-variants as started
+use Rattle.monotone_walk.specs.declared.Stepped.{Stepped}
+use Rattle.monotone_walk.specs.declared.Stepped.the-variants as stepped
+use Rattle.monotone_walk.specs.Walks.{Moved, startedSays, steppedSays}
 use Rattle.deletion.specs.declared.Deleted.{Deleted}
 use Rattle.deletion.specs.declared.Deleted.the-variants as deleted
 use Rattle.deletion.specs.Rules.{Removed, deletedSays}

@@ -3,5 +3,4 @@ pub mod Past
 pub mod Taken
 pub mod Filled
 pub mod Arranging
-pub mod Counting
 pub mod Promises

@@ -3,18 +3,15 @@
 --   tooLong n    a length that passes the capacity: 1
 --   isGood e n    the first n entries are a bijection of 0 .. n-1, and the others are 0
 --   taken p    the permutation that a record holds: 1 for its length, 10 if it is not good
---   imageSays p i, inverseSays p, composeSays p q, signSays p
+--   imageSays p i    7 if there is no such place; the image
 use mathlib.Core.Bool.{Bool, false, not}
 use mathlib.Core.List.{List}
 use Prim.Native.Nat.{ℕ}
-use lib.Dec.{leb, ltb, eqb}
+use lib.Dec.{leb, ltb}
 use lib.ListN.{take, drop, getD}
 use Rattle.words.specs.Pick.{pick}
-use Rattle.words.specs.Inversions.{inversions}
-use Rattle.arrangements.specs.Permutation.{isPermutation, compose, inverse}
-use Rattle.answers.specs.declared.Sign.{Sign}
+use Rattle.arrangements.specs.Permutation.{isPermutation}
 use Rattle.answers.specs.Says.{Says, gives, refusedIf, andThen}
-use Rattle.answers.specs.Signs.{signOf}
 use Rattle.permutation.specs.declared.Permutation.{Permutation}
 use Rattle.permutation.specs.Record.{capacity, zerosOnly, wordOf}
 
@@ -33,18 +30,3 @@ taken p = refusedIf (tooLong (p .len)) 1 (refusedIf (notAPermutation p) 10 (give
 
 abbrev pub imageSays : Permutation → ℕ → Says ℕ
 imageSays p i = andThen (taken p) (λ w. refusedIf (leb (p .len) i) 7 (gives (getD w i 0)))
-
-abbrev pub inverseSays : Permutation → Says (List ℕ)
-inverseSays p = andThen (taken p) (λ w. gives (inverse w))
-
-abbrev pub composeSays : Permutation → Permutation → Says (List ℕ)
-composeSays p q =
-    refusedIf (tooLong (p .len)) 1
-    (refusedIf (tooLong (q .len)) 1
-    (refusedIf (not (eqb (p .len) (q .len))) 8
-    (refusedIf (notAPermutation p) 10
-    (refusedIf (notAPermutation q) 10
-    (gives (compose (wordOf p) (wordOf q)))))))
-
-abbrev pub signSays : Permutation → Says Sign
-signSays p = andThen (taken p) (λ w. gives (signOf (inversions w)))

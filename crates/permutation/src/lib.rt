@@ -1,14 +1,12 @@
-// Permutations of up to 64 entries: image, inverse, composition and sign (document 01, "Permutations"; document 02, sections 6 and 7). Rank and order, which
-// end at twenty entries, are `permutation_order`'s.
+// Permutations of up to 64 entries: the record, its checks, and the image of a place (document 01, "Permutations"; document 02, sections 6 and 7). Inverse,
+// composition and sign are `permutation_group`'s; rank and order, which end at twenty entries, `permutation_order`'s.
 ghost use mathlib.Core.Path.{_≡_};
 ghost use Prim.Native.Nat.{_≤_};
 ghost use lib.ListN.{length, take, drop};
-ghost use lib.Seq.{slice};
-ghost use Rattle.words.specs.Inversions.{smallerIn, inversions as inversionsOf};
 ghost use Rattle.answers.specs.Says.{answerSays};
-ghost use Rattle.arrangements.specs.Permutation.{isPermutation, compose as composeOf, inverse as inverseOf};
-ghost use Rattle.permutation.specs.Record.{capacity, zerosOnly, wordOf, recordOf, Holds, Small, Agree, verdictSays, signsSays, refusal, giving, Arranges};
-ghost use Rattle.permutation.specs.Rules.{isGood, taken, imageSays, inverseSays, composeSays, signSays};
+ghost use Rattle.arrangements.specs.Permutation.{isPermutation};
+ghost use Rattle.permutation.specs.Record.{capacity, zerosOnly, wordOf, verdictSays, refusal, giving};
+ghost use Rattle.permutation.specs.Rules.{isGood, taken, imageSays};
 use answers::Answer;
 use answers::Refusal;
 use answers::Sign;
@@ -81,7 +79,7 @@ fn nothing_past(entries: &[u64; CAPACITY], n: u64) -> bool
 }
 
 // Whether these entries with the length n are the record of a permutation. It is judged here and nowhere else.
-fn is_good(entries: &[u64; CAPACITY], n: u64) -> bool
+pub fn is_good(entries: &[u64; CAPACITY], n: u64) -> bool
     requires { ⌜ (n ≤ capacity) × (length (now entries) ≡ capacity) ⌝ }
     ensures { λ r. ⌜ r ≡ isGood (now (entries .entry)) n ⌝ }
 {
@@ -142,141 +140,6 @@ pub fn image(p: Permutation, i: u64) -> Answer
                 return Answer::Refused(Refusal::Outside);
             }
             Answer::Is(p.entries[i as usize])
-        }
-    }
-}
-
-// The place that each entry stands at, of a permutation.
-fn inverted(p: Permutation) -> Permutation
-    requires { ⌜ Holds p ⌝ }
-    ensures { λ r. ⌜ r ≡ recordOf (inverseOf (wordOf p)) ⌝ }
-{
-    let n = p.len;
-    let mut places = [0u64; CAPACITY];
-    let mut i = 0u64;
-    while i < n {
-        let x = p.entries[i as usize];
-        places[x as usize] = i;
-        i += 1;
-    }
-    Permutation {
-        entries: places,
-        len: n,
-    }
-}
-
-// The inverse: 1 and 10 of the record.
-pub fn inverse(p: Permutation) -> Arranged
-    ensures { λ r. ⌜ Arranges (inverseSays p) r ⌝ }
-{
-    match checked(p) {
-        Verdict::Refused(e) => refused(e),
-        Verdict::Given => given(inverted(p)),
-    }
-}
-
-// p after q, of two permutations of one length.
-fn composed(p: Permutation, q: Permutation) -> Permutation
-    requires { ⌜ Agree p q ⌝ }
-    ensures { λ r. ⌜ r ≡ recordOf (composeOf (wordOf p) (wordOf q)) ⌝ }
-{
-    let n = p.len;
-    let mut out = [0u64; CAPACITY];
-    let mut i = 0u64;
-    while i < n {
-        let j = q.entries[i as usize];
-        out[i as usize] = p.entries[j as usize];
-        i += 1;
-    }
-    Permutation {
-        entries: out,
-        len: n,
-    }
-}
-
-// p after q, which sends i to p(q(i)): 1 of either record, 8 if their lengths differ, 10 of either.
-pub fn compose(p: Permutation, q: Permutation) -> Arranged
-    ensures { λ r. ⌜ Arranges (composeSays p q) r ⌝ }
-{
-    let n = p.len;
-    let m = q.len;
-    if n > CAPACITY as u64 {
-        return refused(Refusal::TooWide);
-    }
-    if m > CAPACITY as u64 {
-        return refused(Refusal::TooWide);
-    }
-    if n != m {
-        return refused(Refusal::Shape);
-    }
-    let left = p.entries;
-    if !is_good(&left, n) {
-        return refused(Refusal::NotAPermutation);
-    }
-    let right = q.entries;
-    if !is_good(&right, m) {
-        return refused(Refusal::NotAPermutation);
-    }
-    given(composed(p, q))
-}
-
-// How many entries from place `from` up to place `to` are smaller than x.
-pub fn smaller(entries: &[u64; CAPACITY], from: u64, to: u64, x: u64) -> u64
-    requires { ⌜ (from ≤ to) × (to ≤ capacity) × (length (now entries) ≡ capacity) ⌝ }
-    ensures { λ r. ⌜ r ≡ smallerIn x (slice from to (now (entries .entry))) ⌝ }
-{
-    let mut count = 0u64;
-    let mut i = from;
-    while i < to {
-        if entries[i as usize] < x {
-            count += 1;
-        }
-        i += 1;
-    }
-    count
-}
-
-// The same, of entries and an x that are no greater than the capacity. It has no test, so that the compiler counts several places at a time.
-fn below(entries: &[u64; CAPACITY], from: u64, to: u64, x: u64) -> u64
-    requires { ⌜ Small (now entries) from to x ⌝ }
-    ensures { λ r. ⌜ r ≡ smallerIn x (slice from to (now (entries .entry))) ⌝ }
-{
-    let mut count = 0u64;
-    let mut i = from;
-    while i < to {
-        let above = entries[i as usize];
-        count += (x + CAPACITY as u64 - 1 - above) / CAPACITY as u64;
-        i += 1;
-    }
-    count
-}
-
-// The number of pairs of places with the larger entry on the left.
-fn inversions(p: Permutation) -> u64
-    requires { ⌜ Holds p ⌝ }
-    ensures { λ r. ⌜ r ≡ inversionsOf (wordOf p) ⌝ }
-{
-    let n = p.len;
-    let entries = p.entries;
-    let mut sum = 0u64;
-    let mut i = 0u64;
-    while i < n {
-        let x = entries[i as usize];
-        sum += below(&entries, i + 1, n, x);
-        i += 1;
-    }
-    sum
-}
-
-// The sign, which is the parity of the inversions: 1 and 10 of the record.
-pub fn sign(p: Permutation) -> Signs
-    ensures { λ r. ⌜ signsSays r ≡ signSays p ⌝ }
-{
-    match checked(p) {
-        Verdict::Refused(e) => Signs::Refused(e),
-        Verdict::Given => {
-            let s = answers::from_parity(inversions(p));
-            Signs::Is(s)
         }
     }
 }

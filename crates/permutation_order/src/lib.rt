@@ -42,7 +42,7 @@ fn weight(p: Permutation) -> u64
     while j < n {
         let x = entries[j as usize];
         let f = table[j as usize];
-        sum += permutation::smaller(&entries, 0, j, x) * f;
+        sum += permutation_group::smaller(&entries, 0, j, x) * f;
         j += 1;
     }
     sum

@@ -121,7 +121,7 @@ fn of_record(verb: &[u8], kinds: &[u8], values: &[u64]) -> Reply {
     }
     if asks_one(verb, kinds, b"permsign *", b"permsign rn*", CAPACITY + 2) {
         let p = operand(is_raw(kinds, 0), requests::list(values, 0));
-        return Reply::Sign(permutation::sign(p));
+        return Reply::Sign(permutation_group::sign(p));
     }
     if asks_one(
         verb,
@@ -149,7 +149,7 @@ fn composed(kinds: &[u8], values: &[u64], places: &mut [u64]) -> Reply {
     }
     let p = operand(left, requests::list_before(values, slash));
     let q = operand(right, requests::list_after(values, slash));
-    give(permutation::compose(p, q), places)
+    give(permutation_group::compose(p, q), places)
 }
 
 // The requests that are answered by a permutation.
@@ -162,7 +162,7 @@ fn arranged(verb: &[u8], kinds: &[u8], values: &[u64], places: &mut [u64]) -> Re
         CAPACITY + 2,
     ) {
         let p = operand(is_raw(kinds, 0), requests::list(values, 0));
-        return give(permutation::inverse(p), places);
+        return give(permutation_group::inverse(p), places);
     }
     if asks_one(verb, kinds, b"permnext *", b"permnext rn*", CAPACITY + 2) {
         let p = operand(is_raw(kinds, 0), requests::list(values, 0));

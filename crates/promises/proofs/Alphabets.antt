@@ -25,11 +25,12 @@ use Rattle.words.specs.Next.{first}
 use Rattle.words.proofs.Unrank.{below-n-exactly-when-rank-below-count}
 use Rattle.answers.specs.Says.{refuses, gives, andThen}
 use Rattle.answers.specs.Terms.{indexOf}
-use Rattle.monotone.specs.declared.Current.the-variants.{At, Nothing}
-use Rattle.monotone.specs.declared.Walk.{Walk}
-use Rattle.monotone.specs.Rules.{countSays, unrankSays}
-use Rattle.monotone.specs.Walks.{walkSays}
-use Rattle.monotone.proofs.Rules.{Counted, count-given, count-gives, Unranked, unrank-given, unrank-gives, unrank-none}
+use Rattle.monotone_walk.specs.declared.Current.the-variants.{At, Nothing}
+use Rattle.monotone_walk.specs.declared.Walk.{Walk}
+use Rattle.monotone_count.specs.Rules.{countSays, walkSays}
+use Rattle.monotone_unrank.specs.Rules.{unrankSays}
+use Rattle.monotone_count.proofs.Rules.{Counted, count-given, count-gives}
+use Rattle.monotone_unrank.proofs.Rules.{Unranked, unrank-given, unrank-gives, unrank-none}
 use Rattle.promises.specs.Listing.{listing}
 use Rattle.promises.proofs.From.{from, take-from, take-either-way}
 use Rattle.promises.proofs.Walks.{Standing, walk-stands, walk-lists-by-rank}

@@ -25,7 +25,7 @@ use Rattle.permutation_order.specs.Rules.{numbered}
 use Rattle.arrangements.specs.Permutation.{isPermutation}
 use Rattle.arrangements.specs.Rank.{rankBelow}
 use Rattle.positional.specs.Positional.{product, cornerOf, numberOf, digitsOf}
-use Rattle.monotone.specs.Rules.{successorSays}
+use Rattle.monotone_walk.specs.Rules.{successorSays}
 use Rattle.deletion.specs.Rules.{deleteSays}
 use Rattle.promises.specs.Checked.{AllHold, none, _and_, bits, setOf, removed, cases}
 

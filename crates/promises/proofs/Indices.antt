@@ -29,8 +29,9 @@ use Rattle.answers.specs.Says.{Says, refuses, gives, refusedIf, andThen}
 use Rattle.answers.specs.Terms.{indexOf, wordOf}
 use Rattle.answers.proofs.Says.{gives-same, passed, then-gave}
 use Rattle.answers.proofs.Terms.{word-of-index}
-use Rattle.monotone.specs.Rules.{countSays, unrankOverSays, widest, unrankAnySays}
-use Rattle.monotone.proofs.Rules.{Counted, count-given, count-gives}
+use Rattle.monotone_count.specs.Rules.{countSays}
+use Rattle.monotone_unrank.specs.Rules.{unrankOverSays, widest, unrankAnySays}
+use Rattle.monotone_count.proofs.Rules.{Counted, count-given, count-gives}
 use Rattle.promises.proofs.Alphabets.{narrower}
 
 -- ---- the alphabet that none has named

@@ -33,13 +33,18 @@ use Rattle.packing.specs.Checks.{rises, breakAt, lastShifted}
 use Rattle.packing.proofs.Checks.{rises-is-monotone}
 use Rattle.taking.specs.Taken.{top, Accepted}
 use Rattle.taking.proofs.Accepted.{accepted-is-a-word, index-accepted, taken-accepted, taken-gives}
-use Rattle.monotone.specs.declared.Walk.{Walk}
-use Rattle.monotone.specs.declared.Current.{Current}
-use Rattle.monotone.specs.declared.Current.the-variants.{At, Nothing}
-use Rattle.monotone.specs.Rules.{countSays, packSays, rankSays, rankOfSays, unrankOverSays, widest, unrankAnySays, successorSays}
-use Rattle.monotone.specs.Walks.{Moved, current, walkSays, stepFrom, stepSays}
-use Rattle.monotone.proofs.Rules.{Counted, count-given, checked-gives}
-use Rattle.monotone.proofs.Passing.{unrank-accepted}
+use Rattle.monotone_walk.specs.declared.Walk.{Walk}
+use Rattle.monotone_walk.specs.declared.Current.{Current}
+use Rattle.monotone_walk.specs.declared.Current.the-variants.{At, Nothing}
+use Rattle.monotone_count.specs.Rules.{countSays, walkSays}
+use Rattle.monotone.specs.Rules.{packSays}
+use Rattle.monotone_rank.specs.Rules.{rankSays, rankOfSays}
+use Rattle.monotone_unrank.specs.Rules.{unrankOverSays, widest, unrankAnySays}
+use Rattle.monotone_walk.specs.Rules.{successorSays}
+use Rattle.monotone_walk.specs.Walks.{Moved, current, stepFrom, stepSays}
+use Rattle.monotone_count.proofs.Rules.{Counted, count-given}
+use Rattle.monotone.proofs.Rules.{checked-gives}
+use Rattle.monotone_unrank.proofs.Passing.{unrank-accepted}
 use Rattle.promises.proofs.Walks.{pos-of-ne}
 use Rattle.promises.proofs.Terms.{word-ranked, Succeeds, successor-given}
 

@@ -49,12 +49,16 @@ use Rattle.answers.proofs.Says.{gives-same, gives-no-refusal, passed, stopped}
 use Rattle.answers.proofs.Terms.{word-of-index, word-monotone, shifted-word}
 use Rattle.packing.specs.Checks.{lastShifted}
 use Rattle.packing.proofs.Checks.{last-shifted-at, last-shifted-none}
-use Rattle.monotone.specs.declared.Walk.{Walk}
-use Rattle.monotone.specs.Rules.{countSays, rankSays, unrankSays, nextSays, successorSays}
+use Rattle.monotone_walk.specs.declared.Walk.{Walk}
+use Rattle.monotone_count.specs.Rules.{countSays, walkSays}
+use Rattle.monotone_rank.specs.Rules.{rankSays}
+use Rattle.monotone_unrank.specs.Rules.{unrankSays}
+use Rattle.monotone_walk.specs.Rules.{nextSays, successorSays}
 use Rattle.taking.specs.Taken.{top, Accepted}
 use Rattle.taking.proofs.Accepted.{accepted-is-a-word, taken-accepted, taken-gives}
-use Rattle.monotone.specs.Walks.{walkSays}
-use Rattle.monotone.proofs.Rules.{Counted, count-given, Unranked, unrank-given, unrank-gives, Ranked, checked-given, checked-gives}
+use Rattle.monotone_count.proofs.Rules.{Counted, count-given}
+use Rattle.monotone_unrank.proofs.Rules.{Unranked, unrank-given, unrank-gives}
+use Rattle.monotone.proofs.Rules.{Ranked, checked-given, checked-gives}
 use Rattle.promises.specs.Listing.{listing, Lists, sumBelow}
 use Rattle.promises.proofs.Walks.{pos-of-ne, Standing, walk-stands, walk-lists-by-rank}
 use Rattle.promises.proofs.From.{from, from-long, from-at, in-from, from-in, from-distinct}

@@ -31,13 +31,15 @@ use Rattle.answers.specs.Says.{Says, refusesWith, refuses, gives, refusedIf, an
 use Rattle.answers.specs.Terms.{indexOf, wordOf}
 use Rattle.answers.proofs.Says.{gives-same}
 use Rattle.answers.proofs.Terms.{word-of-index}
-use Rattle.monotone.specs.declared.Walk.{Walk}
-use Rattle.monotone.specs.declared.Current.the-variants.{At, Nothing}
-use Rattle.monotone.specs.Rules.{countSays, nextSays, unrankOverSays, successorSays}
+use Rattle.monotone_walk.specs.declared.Walk.{Walk}
+use Rattle.monotone_walk.specs.declared.Current.the-variants.{At, Nothing}
+use Rattle.monotone_count.specs.Rules.{countSays, walkSays}
+use Rattle.monotone_walk.specs.Rules.{nextSays, successorSays}
+use Rattle.monotone_unrank.specs.Rules.{unrankOverSays}
 use Rattle.taking.specs.Taken.{Accepted}
 use Rattle.taking.proofs.Accepted.{index-accepted, taken-accepted}
-use Rattle.monotone.specs.Walks.{Moved, walkSays, current, stepFrom, stepSays}
-use Rattle.monotone.proofs.Rules.{Counted, count-given}
+use Rattle.monotone_walk.specs.Walks.{Moved, current, stepFrom, stepSays}
+use Rattle.monotone_count.proofs.Rules.{Counted, count-given}
 use Rattle.promises.proofs.From.{from}
 use Rattle.promises.specs.Listing.{follow, listing, stepGives}
 

@@ -18,12 +18,16 @@ use Rattle.answers.specs.declared.Sign.{Sign}
 use Rattle.answers.specs.declared.Sign.the-variants.{Plus, Minus}
 use Rattle.answers.specs.Says.{Says, refuses, gives, Term}
 use Rattle.answers.specs.Terms.{indexOf}
-use Rattle.monotone.specs.Rules.{countSays, rankSays, unrankSays, unrankOverSays, successorSays}
+use Rattle.monotone_count.specs.Rules.{countSays}
+use Rattle.monotone_rank.specs.Rules.{rankSays}
+use Rattle.monotone_unrank.specs.Rules.{unrankSays, unrankOverSays}
+use Rattle.monotone_walk.specs.Rules.{successorSays}
 use Rattle.algebra.specs.Rules.{mergeSays}
 use Rattle.deletion.specs.Rules.{Removed, deleteSays, complementSays}
 use Rattle.permutation.specs.Record.{recordOf}
 use Rattle.permutation_order.specs.Rules as permutation
 use Rattle.cartesian.specs.Rules as shape
+use Rattle.cartesian_strides.specs.Rules.{stridesSays, cornerSays}
 use Rattle.digits.specs.declared.DigitWord.{DigitWord}
 use Rattle.digits.specs.Rules as digit
 
@@ -108,10 +112,10 @@ cases =
     -- 10. radices (2,3,4), digits (1,2,3): 23 of 24; strides 1,2,6
     ∷ shape.linearizeSays (2 ∷ 3 ∷ 4 ∷ []) (1 ∷ 2 ∷ 3 ∷ []) is gives 23
     ∷ shape.countSays (2 ∷ 3 ∷ 4 ∷ []) is gives 24
-    ∷ shape.stridesSays (2 ∷ 3 ∷ 4 ∷ []) 3 is gives (1 ∷ 2 ∷ 6 ∷ [])
+    ∷ stridesSays (2 ∷ 3 ∷ 4 ∷ []) 3 is gives (1 ∷ 2 ∷ 6 ∷ [])
     -- 11. radix 3 symbols (2,0,1): rank 11; delete position 1: symbol 0, rank 5
     ∷ digit.fromSymbolsSays 3 (2 ∷ 0 ∷ 1 ∷ []) is gives (digits 3 3 11)
     ∷ digit.deleteSays (digits 3 3 11) 1 is gives (taken 0 (digits 3 2 5))
     -- 12. corner {1,2} of radices (2^63,1,1): refusal 9
-    ∷ shape.cornerSays (2 ^ 63 ∷ 1 ∷ 1 ∷ []) (bitsOf (1 ∷ 2 ∷ [])) is refuses 9
+    ∷ cornerSays (2 ^ 63 ∷ 1 ∷ 1 ∷ []) (bitsOf (1 ∷ 2 ∷ [])) is refuses 9
     ∷ []

@@ -14,8 +14,8 @@ use Rattle.words.specs.HowMany.{In, Distinct}
 use Rattle.answers.specs.declared.Index.{Index}
 use Rattle.answers.specs.Says.{Says, refusesWith, gives, andThen}
 use Rattle.answers.specs.Terms.{wordOf}
-use Rattle.monotone.specs.declared.Walk.{Walk}
-use Rattle.monotone.specs.Walks.{Moved, stepSays}
+use Rattle.monotone_walk.specs.declared.Walk.{Walk}
+use Rattle.monotone_walk.specs.Walks.{Moved, stepSays}
 
 -- the word that a step gives, and what is listed from the state after it; nothing after a refusal
 abbrev pub follow : (Walk → List (List ℕ)) → Says Moved → List (List ℕ)

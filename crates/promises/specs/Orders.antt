@@ -11,17 +11,23 @@ use Rattle.words.specs.declared.Family.the-variants.{Forbidden, Allowed}
 use Rattle.answers.specs.declared.Index.{Index}
 use Rattle.answers.specs.Says.{refuses, refusesAt}
 use Rattle.answers.specs.Terms.{indexOf}
-use Rattle.monotone.specs.declared.Current.the-variants.{At, Nothing}
-use Rattle.monotone.specs.Rules.{rankSays, packSays, unpackSays, symbolSays, rankOfSays, unrankSays, unrankOverSays, unrankAnySays, successorSays}
-use Rattle.monotone.specs.Walks.{stepSays}
+use Rattle.monotone_walk.specs.declared.Current.the-variants.{At, Nothing}
+use Rattle.monotone_rank.specs.Rules.{rankSays, rankOfSays}
+use Rattle.monotone.specs.Rules.{packSays, unpackSays, symbolSays}
+use Rattle.monotone_unrank.specs.Rules.{unrankSays, unrankOverSays, unrankAnySays}
+use Rattle.monotone_walk.specs.Rules.{successorSays}
+use Rattle.monotone_walk.specs.Walks.{stepSays}
 use Rattle.algebra.specs.Rules.{canonicalSays, mergeSays}
 use Rattle.deletion.specs.Rules.{deleteSays, complementSays, stabilizerSays}
 use Rattle.permutation.specs.Record.{recordOf}
-use Rattle.permutation.specs.Rules.{imageSays, inverseSays, composeSays, signSays}
+use Rattle.permutation.specs.Rules.{imageSays}
+use Rattle.permutation_group.specs.Rules.{inverseSays, composeSays, signSays}
 use Rattle.permutation_order.specs.Rules as order
 use Rattle.cartesian.specs.Rules as shape
+use Rattle.cartesian_strides.specs.Rules.{stridesSays, cornerSays}
 use Rattle.digits.specs.Rules as digit
 use Rattle.composition.specs.Rules as exponents
+use Rattle.composition_rank.specs.Rules.{fromRankSays}
 use Rattle.promises.specs.Checked.{Case, _is_, digits}
 
 abbrev pub at : Family → ℕ → ℕ → Index
@@ -95,8 +101,8 @@ orders =
     ∷ order.successorSays (recordOf (1 ∷ 1 ∷ [])) is refuses 10
     -- shapes: count 1, 9; strides 1, 9, 8; linearize 1, 8, 7, 9; delinearize 1, 9, 3, 8; corner 1, 7, 9
     ∷ shape.countSays (all 17 (2 ^ 40)) is refuses 1
-    ∷ shape.stridesSays (all 17 (2 ^ 40)) 0 is refuses 1
-    ∷ shape.stridesSays (all 3 (2 ^ 40)) 0 is refuses 9
+    ∷ stridesSays (all 17 (2 ^ 40)) 0 is refuses 1
+    ∷ stridesSays (all 3 (2 ^ 40)) 0 is refuses 9
     ∷ shape.linearizeSays (all 17 2) [] is refuses 1
     ∷ shape.linearizeSays (2 ∷ 2 ∷ []) (5 ∷ []) is refuses 8
     ∷ shape.linearizeSays (all 2 (2 ^ 40)) (all 2 (2 ^ 40)) is refuses 7
@@ -104,8 +110,8 @@ orders =
     ∷ shape.delinearizeSays (all 2 (2 ^ 40)) 0 0 is refuses 9
     ∷ shape.delinearizeSays (2 ∷ []) 2 0 is refuses 3
     ∷ shape.delinearizeSays (2 ∷ []) 1 0 is refuses 8
-    ∷ shape.cornerSays (all 17 (2 ^ 40)) 12 is refuses 1
-    ∷ shape.cornerSays (2 ^ 63 ∷ 2 ∷ 1 ∷ []) 12 is refuses 7
+    ∷ cornerSays (all 17 (2 ^ 40)) 12 is refuses 1
+    ∷ cornerSays (2 ^ 63 ∷ 2 ∷ 1 ∷ []) 12 is refuses 7
     -- digit words: from symbols 1, 7, 9; the word's own 1, 9, 3 ahead of the call's; concatenation: the first word's, the second's, 8, 1, 9
     ∷ digit.countSays 2 65 is refuses 1
     ∷ digit.fromSymbolsSays 2 (all 65 2) is refuses 1
@@ -129,9 +135,9 @@ orders =
     ∷ exponents.fromWordSays 64 (99 ∷ 99 ∷ []) 0 is refuses 1
     ∷ exponents.fromWordSays 2 (9 ∷ []) 0 is refuses 7
     ∷ exponents.fromWordSays 2 (1 ∷ []) 0 is refuses 8
-    ∷ exponents.fromRankSays 64 2 (2 ^ 63) 0 is refuses 1
-    ∷ exponents.fromRankSays 2 2 3 0 is refuses 3
-    ∷ exponents.fromRankSays 3 2 3 0 is refuses 8
+    ∷ fromRankSays 64 2 (2 ^ 63) 0 is refuses 1
+    ∷ fromRankSays 2 2 3 0 is refuses 3
+    ∷ fromRankSays 3 2 3 0 is refuses 8
     ∷ exponents.addSays (1 ∷ []) (65 ∷ 0 ∷ []) 0 is refuses 1
     ∷ exponents.addSays (40 ∷ []) (40 ∷ 0 ∷ []) 0 is refuses 8
     ∷ exponents.addSays (40 ∷ []) (40 ∷ []) 0 is refuses 1

@@ -9,9 +9,9 @@ use answers::Signed;
 use deletion::Deleted;
 use digits::Deleted as DigitDeleted;
 use digits::Worded;
-use monotone::Current;
-use monotone::Stepped;
-use monotone::Walk;
+use monotone_walk::Current;
+use monotone_walk::Stepped;
+use monotone_walk::Walk;
 use permutation::Signs;
 
 // What a request is answered with.

@@ -6,7 +6,7 @@ pub(crate) fn of_shape(verb: &[u8], kinds: &[u8], values: &[u64], lent: &mut [u6
         return Reply::Number(cartesian::shape_count(requests::list(values, 0)));
     }
     if requests::asks(verb, kinds, b"strides *") {
-        return Reply::Places(cartesian::strides(requests::list(values, 0), lent));
+        return Reply::Places(cartesian_strides::strides(requests::list(values, 0), lent));
     }
     if requests::asks(verb, kinds, b"linearize */*") {
         let slash = requests::slash(kinds);
@@ -20,7 +20,7 @@ pub(crate) fn of_shape(verb: &[u8], kinds: &[u8], values: &[u64], lent: &mut [u6
         return Reply::Places(cartesian::delinearize(radices, x, lent));
     }
     if requests::asks(verb, kinds, b"corner n/*") {
-        return Reply::Number(cartesian::corner(radices, x));
+        return Reply::Number(cartesian_strides::corner(radices, x));
     }
     Reply::Bad
 }

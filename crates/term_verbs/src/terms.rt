@@ -3,10 +3,10 @@ use answers::Answer;
 use answers::Index;
 use answers::Indexed;
 use answers::Refusal;
-use monotone::Current;
-use monotone::Started;
-use monotone::Stepped;
-use monotone::Walk;
+use monotone_walk::Current;
+use monotone_walk::Started;
+use monotone_walk::Stepped;
+use monotone_walk::Walk;
 use replies::Reply;
 use words::Family;
 
@@ -15,7 +15,7 @@ fn stepped(walk: Walk, s: u64) -> Indexed {
     let mut w = walk;
     let mut i = 1;
     while i < s {
-        match monotone::step(w) {
+        match monotone_walk::step(w) {
             Stepped::Step(_, next) => {
                 w = next;
                 i += 1;
@@ -25,7 +25,7 @@ fn stepped(walk: Walk, s: u64) -> Indexed {
             }
         }
     }
-    match monotone::step(w) {
+    match monotone_walk::step(w) {
         Stepped::Step(x, _) => Indexed::At(x),
         Stepped::Refused(e) => Indexed::Refused(e),
     }
@@ -33,7 +33,7 @@ fn stepped(walk: Walk, s: u64) -> Indexed {
 
 // The same without the steps before it: a walk lists the words in their order, so its s-th step gives the index of rank s - 1.
 fn far_step(f: Family, n: u64, k: u64, s: u64) -> Indexed {
-    match monotone::count(f, n, k) {
+    match monotone_count::count(f, n, k) {
         Answer::Is(count) => {
             if s > count {
                 return Indexed::Refused(Refusal::Last);
@@ -41,7 +41,7 @@ fn far_step(f: Family, n: u64, k: u64, s: u64) -> Indexed {
             if s == 0 {
                 return Indexed::Refused(Refusal::Last);
             }
-            monotone::unrank_over(f, n, k, s - 1)
+            monotone_unrank::unrank_over(f, n, k, s - 1)
         }
         Answer::Refused(e) => Indexed::Refused(e),
     }
@@ -52,7 +52,7 @@ fn walked(f: Family, n: u64, k: u64, s: u64) -> Indexed {
     if s > 4096 {
         return far_step(f, n, k, s);
     }
-    match monotone::start(f, n, k) {
+    match monotone_count::start(f, n, k) {
         Started::Walk(w) => stepped(w, s),
         Started::Refused(e) => Indexed::Refused(e),
     }
@@ -72,19 +72,19 @@ pub(crate) fn over(verb: &[u8], kinds: &[u8], values: &[u64], lent: &mut [u64]) 
     let b = requests::number(values, 2);
     let c = requests::number(values, 3);
     if requests::asks(verb, kinds, b"count Fnn") {
-        return Reply::Number(monotone::count(f, a, b));
+        return Reply::Number(monotone_count::count(f, a, b));
     }
     if requests::asks(verb, kinds, b"walk Fnnn") {
         return walk(f, a, b, c);
     }
     if requests::asks(verb, kinds, b"unrank Fnnn") {
-        return Reply::Places(monotone::unrank(f, a, b, c, lent));
+        return Reply::Places(monotone_unrank::unrank(f, a, b, c, lent));
     }
     if requests::asks(verb, kinds, b"unrankover Fnnn") {
-        return Reply::Index(monotone::unrank_over(f, a, b, c));
+        return Reply::Index(monotone_unrank::unrank_over(f, a, b, c));
     }
     if requests::asks(verb, kinds, b"unrankany Fnn") {
-        return Reply::Index(monotone::unrank_any(f, a, b));
+        return Reply::Index(monotone_unrank::unrank_any(f, a, b));
     }
     Reply::Bad
 }
@@ -98,12 +98,12 @@ pub(crate) fn of_walk(verb: &[u8], kinds: &[u8], values: &[u64]) -> Reply {
             bits: requests::number(values, 3),
         });
         let remaining = requests::number(values, 4);
-        return Reply::Step(monotone::step(Walk { current, remaining }));
+        return Reply::Step(monotone_walk::step(Walk { current, remaining }));
     }
     if requests::asks(verb, kinds, b"step wFn") {
         let current = Current::Nothing;
         let remaining = requests::number(values, 2);
-        return Reply::Step(monotone::step(Walk { current, remaining }));
+        return Reply::Step(monotone_walk::step(Walk { current, remaining }));
     }
     Reply::Bad
 }
@@ -113,7 +113,7 @@ pub(crate) fn of_word(verb: &[u8], kinds: &[u8], values: &[u64]) -> Reply {
     let f = requests::family(kinds, 0);
     let w = requests::list(values, 1);
     if requests::asks(verb, kinds, b"rank F*") {
-        return Reply::Number(monotone::rank(f, w));
+        return Reply::Number(monotone_rank::rank(f, w));
     }
     if requests::asks(verb, kinds, b"pack Fn*") {
         return Reply::Index(monotone::pack(
@@ -134,13 +134,13 @@ pub(crate) fn of_index(verb: &[u8], kinds: &[u8], values: &[u64], lent: &mut [u6
     };
     let p = requests::number(values, 3);
     if requests::asks(verb, kinds, b"rankof Fnn") {
-        return Reply::Number(monotone::rank_of(x));
+        return Reply::Number(monotone_rank::rank_of(x));
     }
     if requests::asks(verb, kinds, b"unpack Fnn") {
         return Reply::Places(monotone::unpack(x, lent));
     }
     if requests::asks(verb, kinds, b"next Fnn") {
-        return Reply::Index(monotone::successor(x));
+        return Reply::Index(monotone_walk::successor(x));
     }
     if requests::asks(verb, kinds, b"symbol Fnnn") {
         return Reply::Number(monotone::symbol(x, p));

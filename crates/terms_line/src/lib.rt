@@ -3,9 +3,9 @@ ghost use Rattle.terms_line.specs.Line.{Parses, Answers};
 use answers::Answer;
 use answers::Index;
 use answers::Refusal;
-use monotone::Started;
-use monotone::Stepped;
-use monotone::Walk;
+use monotone_walk::Started;
+use monotone_walk::Stepped;
+use monotone_walk::Walk;
 use text::Named;
 use text::Number;
 use words::Family;
@@ -108,7 +108,7 @@ fn put_words(out: &mut [u8], at: usize, walk: Walk, count: u64) -> usize {
     let mut w = walk;
     let mut r = 0;
     while r < count {
-        let Stepped::Step(x, next) = monotone::step(w) else {
+        let Stepped::Step(x, next) = monotone_walk::step(w) else {
             return to;
         };
         to = put_word(out, to, r, x);
@@ -120,13 +120,13 @@ fn put_words(out: &mut [u8], at: usize, walk: Walk, count: u64) -> usize {
 
 // The words of a family, if there are 4,096 or fewer, after the header.
 fn put_terms(out: &mut [u8], f: Family, n: u64, k: u64) -> usize {
-    match monotone::count(f, n, k) {
+    match monotone_count::count(f, n, k) {
         Answer::Is(count) => {
             let at = put_header(out, 0, f, n, k, count);
             if count > 4096 {
                 return at;
             }
-            let Started::Walk(w) = monotone::start(f, n, k) else {
+            let Started::Walk(w) = monotone_count::start(f, n, k) else {
                 return at;
             };
             put_words(out, at, w, count)

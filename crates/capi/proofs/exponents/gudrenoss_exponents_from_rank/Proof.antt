@@ -5,7 +5,7 @@ use Rattle.capi.proofs.exponents.gudrenoss_exponents_from_rank.Tie as t
 use Rattle.capi.proofs.exponents.gudrenoss_exponents_from_rank.Reads as reads
 use Rattle.capi.proofs.exponents.gudrenoss_exponents_from_rank.Lts as lts
 use Rattle.boundary.proofs.number.Reads as number-reads
-use Rattle.composition.proofs.from_rank.Reads as from-rank-reads
+use Rattle.composition_rank.proofs.from_rank.Reads as from-rank-reads
 
 -- src/exponents.rt:62:22
 from-rank-requires : tie.Need-from-rank-requires

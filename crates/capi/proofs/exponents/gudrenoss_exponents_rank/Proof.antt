@@ -4,7 +4,7 @@ use Rattle.capi.proofs.exponents.gudrenoss_exponents_rank.Tie as tie
 use Rattle.capi.proofs.exponents.gudrenoss_exponents_rank.Reads as reads
 use Rattle.capi.proofs.exponents.gudrenoss_exponents_rank.Lts as lts
 use Rattle.boundary.proofs.number.Reads as number-reads
-use Rattle.composition.proofs.rank.Reads as rank-reads
+use Rattle.composition_rank.proofs.rank.Reads as rank-reads
 
 -- src/exponents.rt:46:22
 rank-requires : tie.Need-rank-requires

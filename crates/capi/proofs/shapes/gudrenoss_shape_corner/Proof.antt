@@ -4,7 +4,7 @@ use Rattle.capi.proofs.shapes.gudrenoss_shape_corner.Tie as tie
 use Rattle.capi.proofs.shapes.gudrenoss_shape_corner.Reads as reads
 use Rattle.capi.proofs.shapes.gudrenoss_shape_corner.Lts as lts
 use Rattle.boundary.proofs.number.Reads as number-reads
-use Rattle.cartesian.proofs.corner.Reads as corner-reads
+use Rattle.cartesian_strides.proofs.corner.Reads as corner-reads
 
 -- src/shapes.rt:70:22
 corner-requires : tie.Need-corner-requires

@@ -5,7 +5,7 @@ use Rattle.capi.proofs.shapes.gudrenoss_shape_strides.Tie as tie
 use Rattle.capi.proofs.shapes.gudrenoss_shape_strides.Reads as reads
 use Rattle.capi.proofs.shapes.gudrenoss_shape_strides.Lts as lts
 use Rattle.boundary.proofs.number.Reads as number-reads
-use Rattle.cartesian.proofs.strides.Reads as strides-reads
+use Rattle.cartesian_strides.proofs.strides.Reads as strides-reads
 
 -- src/shapes.rt:31:22
 strides-requires : tie.Need-strides-requires

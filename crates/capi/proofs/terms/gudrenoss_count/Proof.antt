@@ -5,7 +5,7 @@ use Rattle.capi.proofs.terms.gudrenoss_count.Reads as reads
 use Rattle.capi.proofs.terms.gudrenoss_count.Lts as lts
 use Rattle.boundary.proofs.family.Reads as family-reads
 use Rattle.boundary.proofs.number.Reads as number-reads
-use Rattle.monotone.proofs.count.Reads as count-reads
+use Rattle.monotone_count.proofs.count.Reads as count-reads
 
 -- src/terms.rt:20:38
 family-requires : tie.Need-family-requires

@@ -5,7 +5,7 @@ use Rattle.capi.proofs.terms.gudrenoss_rank.Reads as reads
 use Rattle.capi.proofs.terms.gudrenoss_rank.Lts as lts
 use Rattle.boundary.proofs.family.Reads as family-reads
 use Rattle.boundary.proofs.number.Reads as number-reads
-use Rattle.monotone.proofs.rank.Reads as rank-reads
+use Rattle.monotone_rank.proofs.rank.Reads as rank-reads
 
 -- src/terms.rt:96:37
 family-requires : tie.Need-family-requires

@@ -5,7 +5,7 @@ use Rattle.capi.proofs.terms.gudrenoss_rank_of.Reads as reads
 use Rattle.capi.proofs.terms.gudrenoss_rank_of.Lts as lts
 use Rattle.boundary.proofs.index.Reads as index-reads
 use Rattle.boundary.proofs.number.Reads as number-reads
-use Rattle.monotone.proofs.rank_of.Reads as rank-of-reads
+use Rattle.monotone_rank.proofs.rank_of.Reads as rank-of-reads
 
 -- src/terms.rt:105:40
 index-requires : tie.Need-index-requires

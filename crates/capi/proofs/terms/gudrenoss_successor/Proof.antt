@@ -5,7 +5,7 @@ use Rattle.capi.proofs.terms.gudrenoss_successor.Reads as reads
 use Rattle.capi.proofs.terms.gudrenoss_successor.Lts as lts
 use Rattle.boundary.proofs.indexed.Reads as indexed-reads
 use Rattle.boundary.proofs.index.Reads as index-reads
-use Rattle.monotone.proofs.successor.Reads as successor-reads
+use Rattle.monotone_walk.proofs.successor.Reads as successor-reads
 
 -- src/terms.rt:184:29
 index-requires : tie.Need-index-requires

@@ -5,7 +5,7 @@ use Rattle.capi.proofs.terms.gudrenoss_unrank.Reads as reads
 use Rattle.capi.proofs.terms.gudrenoss_unrank.Lts as lts
 use Rattle.boundary.proofs.family.Reads as family-reads
 use Rattle.boundary.proofs.number.Reads as number-reads
-use Rattle.monotone.proofs.unrank.Reads as unrank-reads
+use Rattle.monotone_unrank.proofs.unrank.Reads as unrank-reads
 
 -- src/terms.rt:123:26
 family-requires : tie.Need-family-requires

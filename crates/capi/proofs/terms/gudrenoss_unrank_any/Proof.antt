@@ -5,7 +5,7 @@ use Rattle.capi.proofs.terms.gudrenoss_unrank_any.Reads as reads
 use Rattle.capi.proofs.terms.gudrenoss_unrank_any.Lts as lts
 use Rattle.boundary.proofs.indexed.Reads as indexed-reads
 use Rattle.boundary.proofs.family.Reads as family-reads
-use Rattle.monotone.proofs.unrank_any.Reads as unrank-any-reads
+use Rattle.monotone_unrank.proofs.unrank_any.Reads as unrank-any-reads
 
 -- src/terms.rt:164:30
 family-requires : tie.Need-family-requires

@@ -5,7 +5,7 @@ use Rattle.capi.proofs.terms.gudrenoss_unrank_over.Reads as reads
 use Rattle.capi.proofs.terms.gudrenoss_unrank_over.Lts as lts
 use Rattle.boundary.proofs.indexed.Reads as indexed-reads
 use Rattle.boundary.proofs.family.Reads as family-reads
-use Rattle.monotone.proofs.unrank_over.Reads as unrank-over-reads
+use Rattle.monotone_unrank.proofs.unrank_over.Reads as unrank-over-reads
 
 -- src/terms.rt:143:31
 family-requires : tie.Need-family-requires

@@ -5,7 +5,7 @@ use Rattle.capi.proofs.terms.gudrenoss_walk_start.Reads as reads
 use Rattle.capi.proofs.terms.gudrenoss_walk_start.Lts as lts
 use Rattle.boundary.proofs.family.Reads as family-reads
 use Rattle.boundary.proofs.started.Reads as started-reads
-use Rattle.monotone.proofs.start.Reads as start-reads
+use Rattle.monotone_count.proofs.start.Reads as start-reads
 
 -- src/terms.rt:208:25
 family-requires : tie.Need-family-requires

@@ -5,7 +5,7 @@ use Rattle.capi.proofs.terms.gudrenoss_walk_step.Reads as reads
 use Rattle.capi.proofs.terms.gudrenoss_walk_step.Lts as lts
 use Rattle.boundary.proofs.stepped.Reads as stepped-reads
 use Rattle.boundary.proofs.walk.Reads as walk-reads
-use Rattle.monotone.proofs.step.Reads as step-reads
+use Rattle.monotone_walk.proofs.step.Reads as step-reads
 
 -- src/terms.rt:236:9
 walk-requires : tie.Need-walk-requires

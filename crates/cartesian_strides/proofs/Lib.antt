@@ -1,0 +1,6 @@
+pub mod Products
+pub mod Writing
+pub mod Corners
+pub mod Rules
+pub mod Promises
+pub mod Examples

@@ -1,0 +1,2 @@
+pub mod Partial
+pub mod Rules
