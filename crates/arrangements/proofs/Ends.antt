@@ -12,7 +12,7 @@ use lib.ListN.{length, getD}
 use Rattle.words.specs.Colex.{ColexLt}
 use Rattle.words.specs.Factorial.{factorial}
 use Rattle.arrangements.specs.Permutation.{Permutation, identity, descending}
-use Rattle.arrangements.specs.Rank.{rankOf}
+use Rattle.arrangements.specs.Rank.{arrangementRank}
 use Rattle.arrangements.proofs.Places.{from-places}
 use Rattle.arrangements.proofs.Rank.{falling-rank, rising-rank, rank-rises}
 use Rattle.arrangements.proofs.Counted.{rank-is-below, rank-tells-apart}
@@ -36,12 +36,12 @@ descending-is-a-permutation n =
       apart = λ i j h k e. omega (arith, descending-at n i h, descending-at n j k);
     })
 
-pub descending-rank : (n : ℕ) → rankOf (descending n) ≡ 0
+pub descending-rank : (n : ℕ) → arrangementRank (descending n) ≡ 0
 descending-rank n =
     falling-rank (descending n) (length (descending n)) (omega arith)
     (λ i j h l. omega (arith, descending-long n, descending-at n i (omega (arith, descending-long n)), descending-at n j (omega (arith, descending-long n))))
 
-pub identity-rank : (n : ℕ) → suc (rankOf (identity n)) ≡ factorial n
+pub identity-rank : (n : ℕ) → suc (arrangementRank (identity n)) ≡ factorial n
 identity-rank n =
     rising-rank (identity n) (length (identity n)) (omega arith)
     (λ i j h l. omega (arith, identity-at n i (omega (arith, identity-long n)), identity-at n j (omega (arith, identity-long n))))
@@ -53,5 +53,5 @@ descending-is-first n p h c = omega (arith, descending-rank n, rank-rises n p (d
 pub identity-is-last : (n : ℕ) (p : List ℕ) → Permutation n p → ColexLt (identity n) p → ⊥
 identity-is-last n p h c = omega (arith, identity-rank n, rank-is-below n p h, rank-rises n (identity n) p (identity-is-a-permutation n) h c)
 
-pub last-is-identity : (n : ℕ) (p : List ℕ) → Permutation n p → suc (rankOf p) ≡ factorial n → p ≡ identity n
+pub last-is-identity : (n : ℕ) (p : List ℕ) → Permutation n p → suc (arrangementRank p) ≡ factorial n → p ≡ identity n
 last-is-identity n p h e = rank-tells-apart n p (identity n) h (identity-is-a-permutation n) (omega (arith, identity-rank n))

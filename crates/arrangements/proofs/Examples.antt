@@ -6,29 +6,29 @@ use Rattle.words.specs.Factorial.{factorial}
 use Rattle.words.specs.HowMany.{HowMany}
 use Rattle.words.specs.Inversions.{smallerIn, inversions}
 use Rattle.arrangements.specs.Permutation.{Permutation, isPermutation, compose, inverse}
-use Rattle.arrangements.specs.Rank.{rankBelow, rankOf, unrankOf}
+use Rattle.arrangements.specs.Rank.{rankBelow, arrangementRank, arrangementUnrank}
 use Rattle.arrangements.specs.Step.{source, step}
 use Rattle.arrangements.proofs.Counted.{factorial-is-how-many}
 
-rank-descending : rankOf (2 ∷ 1 ∷ 0 ∷ []) ≡ 0
+rank-descending : arrangementRank (2 ∷ 1 ∷ 0 ∷ []) ≡ 0
 unfolding rankBelow factorial smallerIn
 rank-descending = refl
 
-rank-between : rankOf (0 ∷ 2 ∷ 1 ∷ []) ≡ 3
+rank-between : arrangementRank (0 ∷ 2 ∷ 1 ∷ []) ≡ 3
 unfolding rankBelow factorial smallerIn
 rank-between = refl
 
-rank-identity : rankOf (0 ∷ 1 ∷ 2 ∷ []) ≡ 5
+rank-identity : arrangementRank (0 ∷ 1 ∷ 2 ∷ []) ≡ 5
 unfolding rankBelow factorial smallerIn
 rank-identity = refl
 
-rank-empty : rankOf [] ≡ 0
+rank-empty : arrangementRank [] ≡ 0
 unfolding rankBelow
 rank-empty = refl
 
 -- in colex order: 210 120 201 021 102 012
-unrank-between : unrankOf 3 3 ≡ 0 ∷ 2 ∷ 1 ∷ []
-unfolding unrankOf factorial
+unrank-between : arrangementUnrank 3 3 ≡ 0 ∷ 2 ∷ 1 ∷ []
+unfolding arrangementUnrank factorial
 unrank-between = refl
 
 next-between : step 1 2 (0 ∷ 2 ∷ 1 ∷ []) ≡ 1 ∷ 0 ∷ 2 ∷ []

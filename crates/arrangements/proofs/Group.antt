@@ -18,7 +18,7 @@ use lib.Seq.{ext-getD}
 use Rattle.words.specs.Pick.{pick}
 use Rattle.words.specs.Word.{Below}
 use Rattle.words.specs.HowMany.{In}
-use Rattle.arrangements.specs.Permutation.{Permutation, countUp, identity, compose, placeOf, inverse}
+use Rattle.arrangements.specs.Permutation.{Permutation, countUp, identity, compose, firstPlaceOf, inverse}
 use Rattle.arrangements.proofs.Places.{ByPlaces, map-at, by-places, from-places}
 use Rattle.arrangements.proofs.Smaller.{permutation-has}
 
@@ -86,30 +86,30 @@ compose-identity n p e =
 
 -- ---- the inverse
 
-place-of : (v : ℕ) (p : List ℕ) → In v p → (placeOf v p < length p) × (getD p (placeOf v p) 0 ≡ v)
+place-of : (v : ℕ) (p : List ℕ) → In v p → (firstPlaceOf v p < length p) × (getD p (firstPlaceOf v p) 0 ≡ v)
 place-of v [] h = absurd h
 place-of v (x ∷ xs) h = go (eqb x v) refl h (place-of v xs)
   where
-    go : (t : Bool) → eqb x v ≡ t → In v (x ∷ xs) → (In v xs → (placeOf v xs < length xs) × (getD xs (placeOf v xs) 0 ≡ v))
-        → (pick t 0 (suc (placeOf v xs)) < suc (length xs)) × (getD (x ∷ xs) (pick t 0 (suc (placeOf v xs))) 0 ≡ v)
+    go : (t : Bool) → eqb x v ≡ t → In v (x ∷ xs) → (In v xs → (firstPlaceOf v xs < length xs) × (getD xs (firstPlaceOf v xs) 0 ≡ v))
+        → (pick t 0 (suc (firstPlaceOf v xs)) < suc (length xs)) × (getD (x ∷ xs) (pick t 0 (suc (firstPlaceOf v xs))) 0 ≡ v)
     go true e h ih = (zero-lt-suc (length xs), eqb-true x v e)
     go false e (inl q) ih = absurd (eqb-false x v e (sym q))
     go false e (inr h) ih = (suc-le-suc (ih h .0), ih h .1)
 
 module _ (n : ℕ) (p : List ℕ) (h : Permutation n p) where
   pub inverse-long : length (inverse p) ≡ n
-  inverse-long = length-map (identity (length p)) (λ v. placeOf v p) ∙ identity-long (length p) ∙ h .long
+  inverse-long = length-map (identity (length p)) (λ v. firstPlaceOf v p) ∙ identity-long (length p) ∙ h .long
 
-  inverse-at : (v : ℕ) → v < n → getD (inverse p) v 0 ≡ placeOf v p
+  inverse-at : (v : ℕ) → v < n → getD (inverse p) v 0 ≡ firstPlaceOf v p
   inverse-at v l =
-      map-at (λ u. placeOf u p) (identity (length p)) v (omega (arith, identity-long (length p), h .long))
-      ∙ ap (λ (u : ℕ). placeOf u p) (identity-at (length p) v (omega (arith, h .long)))
+      map-at (λ u. firstPlaceOf u p) (identity (length p)) v (omega (arith, identity-long (length p), h .long))
+      ∙ ap (λ (u : ℕ). firstPlaceOf u p) (identity-at (length p) v (omega (arith, h .long)))
 
   -- the entry of p at the place that the inverse gives is v
   pub inverse-place : (v : ℕ) → v < n → (getD (inverse p) v 0 < n) × (getD p (getD (inverse p) v 0) 0 ≡ v)
   inverse-place v l = (omega (arith, inverse-at v l, t .0, h .long), ap (λ (i : ℕ). getD p i 0) (inverse-at v l) ∙ t .1)
     where
-      t : (placeOf v p < length p) × (getD p (placeOf v p) 0 ≡ v)
+      t : (firstPlaceOf v p < length p) × (getD p (firstPlaceOf v p) 0 ≡ v)
       t = place-of v p (permutation-has n p h v l)
 
   pub inverse-of-entry : (i : ℕ) → i < n → getD (inverse p) (getD p i 0) 0 ≡ i

@@ -21,7 +21,7 @@ use Rattle.words.specs.Colex.{ColexLt}
 use Rattle.words.specs.Factorial.{factorial}
 use Rattle.words.specs.Inversions.{smallerIn}
 use Rattle.arrangements.specs.Permutation.{Permutation, identity}
-use Rattle.arrangements.specs.Rank.{digit, rankBelow, rankOf, unrankOf}
+use Rattle.arrangements.specs.Rank.{digit, rankBelow, arrangementRank, arrangementUnrank}
 use Rattle.arrangements.specs.Step.{turn, exchange, source, step, Rises, FirstFall, FirstGreater}
 use Rattle.arrangements.proofs.Places.{ByPlaces, map-at, by-places, from-places}
 use Rattle.arrangements.proofs.Smaller.{one-if, smaller-one-more, smaller-split}
@@ -32,18 +32,18 @@ use Rattle.arrangements.proofs.Group.{identity-long, identity-at}
 
 -- ---- the permutation of the next rank
 
-module _ (n : ℕ) (p : List ℕ) (h : Permutation n p) (l : suc (rankOf p) < factorial n) where
-  pub next-is-later : ColexLt p (unrankOf n (suc (rankOf p)))
+module _ (n : ℕ) (p : List ℕ) (h : Permutation n p) (l : suc (arrangementRank p) < factorial n) where
+  pub next-is-later : ColexLt p (arrangementUnrank n (suc (arrangementRank p)))
   next-is-later =
-      earlier-of-rank n p (unrankOf n (suc (rankOf p))) h (unrank-is-a-permutation n (suc (rankOf p)) l) (omega (arith, rank-of-unrank n (suc (rankOf p)) l))
+      earlier-of-rank n p (arrangementUnrank n (suc (arrangementRank p))) h (unrank-is-a-permutation n (suc (arrangementRank p)) l) (omega (arith, rank-of-unrank n (suc (arrangementRank p)) l))
 
-  pub nothing-between : (u : List ℕ) → Permutation n u → ColexLt p u → ColexLt u (unrankOf n (suc (rankOf p))) → ⊥
+  pub nothing-between : (u : List ℕ) → Permutation n u → ColexLt p u → ColexLt u (arrangementUnrank n (suc (arrangementRank p))) → ⊥
   nothing-between u k a b =
       omega (
         arith,
         rank-rises n p u h k a,
-        rank-rises n u (unrankOf n (suc (rankOf p))) k (unrank-is-a-permutation n (suc (rankOf p)) l) b,
-        rank-of-unrank n (suc (rankOf p)) l,
+        rank-rises n u (arrangementUnrank n (suc (arrangementRank p))) k (unrank-is-a-permutation n (suc (arrangementRank p)) l) b,
+        rank-of-unrank n (suc (arrangementRank p)) l,
       )
 
 -- ---- the places of the step
@@ -106,7 +106,7 @@ rises-on w k z h l a b m c = go (ℕ-discrete b k) (ℕ-discrete a (k - 1))
     go (yes e) (no q) = omega (arith, ap (λ (x : ℕ). getD w x 0) e, h a (k - 1) (omega arith) (omega arith))
 
 -- where all entries rise there is none
-pub rising-is-last : (n : ℕ) (w : List ℕ) → length w ≡ n → Rises w n → suc (rankOf w) ≡ factorial n
+pub rising-is-last : (n : ℕ) (w : List ℕ) → length w ≡ n → Rises w n → suc (arrangementRank w) ≡ factorial n
 rising-is-last n w e h = ap (λ (k : ℕ). suc (rankBelow w k)) e ∙ rising-rank w n (omega arith) h
 
 -- w rises below place k, and i is the lowest place there with an entry greater than that at k
@@ -235,7 +235,7 @@ module _ (n : ℕ) (w : List ℕ) (p : Permutation n w) (i k : ℕ) (f : Falls n
       from-i j m (yes e) h = omega (arith, ap (λ (x : ℕ). getD w x 0) e)
       from-i j m (no e) h = omega (arith, f .rises i j (omega arith) m)
 
-  step-rank : rankOf v ≡ suc (rankOf w)
+  step-rank : arrangementRank v ≡ suc (arrangementRank w)
   unfolding rankBelow
   step-rank =
       omega (
@@ -265,9 +265,9 @@ module _ (n : ℕ) (w : List ℕ) (p : Permutation n w) (i k : ℕ) (f : Falls n
           )
 
   -- so there is a next one, and the step is it
-  pub step-has-room : suc (rankOf w) < factorial n
+  pub step-has-room : suc (arrangementRank w) < factorial n
   step-has-room = omega (arith, step-rank, rank-is-below n v step-is-a-permutation)
 
-  pub step-is-next : step i k w ≡ unrankOf n (suc (rankOf w))
+  pub step-is-next : step i k w ≡ arrangementUnrank n (suc (arrangementRank w))
   unfolding v
-  step-is-next = sym (unrank-of-rank n (step i k w) step-is-a-permutation) ∙ ap (unrankOf n) step-rank
+  step-is-next = sym (unrank-of-rank n (step i k w) step-is-a-permutation) ∙ ap (arrangementUnrank n) step-rank

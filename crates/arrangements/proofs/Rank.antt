@@ -22,7 +22,7 @@ use Rattle.words.specs.Inversions.{smallerIn}
 use Rattle.words.proofs.Factorial.{factorial-none, factorial-positive}
 use Rattle.words.proofs.Inversions.{smaller-append}
 use Rattle.arrangements.specs.Permutation.{Permutation}
-use Rattle.arrangements.specs.Rank.{digit, rankBelow, rankOf}
+use Rattle.arrangements.specs.Rank.{digit, rankBelow, arrangementRank}
 use Rattle.arrangements.specs.Step.{Rises}
 use Rattle.arrangements.proofs.Places.{map-at, by-places}
 use Rattle.arrangements.proofs.Smaller.{one-if, smaller-one-more, smaller-monotone, smaller-at-most, smaller-map, smaller-split, smaller-in-permutation}
@@ -75,7 +75,7 @@ rank-of-prefix u v (suc k) l =
     ap₂ (λ (r d : ℕ). r + d * factorial k) (rank-of-prefix u v k (omega arith))
     (ap₂ (λ (x : ℕ) (w : List ℕ). smallerIn x w) (List·getD-append u v 0 k l) (take-append-le k u v (omega arith)))
 
-pub rank-snoc : (u : List ℕ) (x : ℕ) → rankOf (u ++ x ∷ []) ≡ rankOf u + smallerIn x u * factorial (length u)
+pub rank-snoc : (u : List ℕ) (x : ℕ) → arrangementRank (u ++ x ∷ []) ≡ arrangementRank u + smallerIn x u * factorial (length u)
 unfolding rankBelow
 rank-snoc u x =
     ap (rankBelow (u ++ x ∷ [])) (length-append u (x ∷ []) ∙ add-one (length u))
@@ -96,7 +96,7 @@ map-rank f h w (suc k) l =
     (ap₂ (λ (x : ℕ) (u : List ℕ). smallerIn x u) (map-at f w k l) (take-map f k w)
     ∙ smaller-map f (getD w k 0) (f (getD w k 0)) (λ y. h y (getD w k 0)) (take k w))
 
-pub rank-map : (f : ℕ → ℕ) → ((x y : ℕ) → ltb (f x) (f y) ≡ ltb x y) → (w : List ℕ) → rankOf (map f w) ≡ rankOf w
+pub rank-map : (f : ℕ → ℕ) → ((x y : ℕ) → ltb (f x) (f y) ≡ ltb x y) → (w : List ℕ) → arrangementRank (map f w) ≡ arrangementRank w
 rank-map f h w = ap (rankBelow (map f w)) (length-map w f) ∙ map-rank f h w (length w) (omega arith)
 
 -- ---- two permutations that differ below k alone
@@ -146,7 +146,7 @@ module _ (n : ℕ) (u v : List ℕ) (p : Permutation n u) (q : Permutation n v) 
 pub digit-with-itself : (w : List ℕ) (k x : ℕ) → k < length w → getD w k 0 ≡ x → smallerIn x (take (suc k) w) ≡ smallerIn x (take k w)
 digit-with-itself w k x l e = omega (arith, smaller-one-more x w k l, ap one-if (le-ltb (getD w k 0) x (omega arith)))
 
-pub rank-rises : (n : ℕ) (u v : List ℕ) → Permutation n u → Permutation n v → ColexLt u v → rankOf u < rankOf v
+pub rank-rises : (n : ℕ) (u v : List ℕ) → Permutation n u → Permutation n v → ColexLt u v → arrangementRank u < arrangementRank v
 unfolding rankBelow
 rank-rises n u v p q c =
     omega (

@@ -19,7 +19,7 @@ use Rattle.words.specs.Pick.{pick}
 use Rattle.words.specs.Factorial.{factorial}
 use Rattle.words.proofs.Factorial.{factorial-positive}
 use Rattle.arrangements.specs.Permutation.{Permutation}
-use Rattle.arrangements.specs.Rank.{rankBelow, rankOf, raise, lastly, unrankOf}
+use Rattle.arrangements.specs.Rank.{rankBelow, arrangementRank, raise, lastly, arrangementUnrank}
 use Rattle.arrangements.proofs.Places.{ByPlaces, map-at, by-places, from-places}
 use Rattle.arrangements.proofs.Smaller.{smaller-map, smaller-in-permutation}
 use Rattle.arrangements.proofs.Rank.{rank-below-factorial, rank-snoc, rank-map}
@@ -129,7 +129,7 @@ module _ (n d : ℕ) (u : List ℕ) (l : d ≤ n) (p : Permutation n u) where
           by-places n u p .apart i j (omega arith) (omega arith)
           (raise-apart d (getD u i 0) (getD u j 0) (sym (at-left i (omega arith)) ∙ q ∙ at-left j (omega arith)))
 
-  lastly-rank : rankOf (lastly d u) ≡ rankOf u + d * factorial n
+  lastly-rank : arrangementRank (lastly d u) ≡ arrangementRank u + d * factorial n
   lastly-rank =
       rank-snoc (map (raise d) u) d
       ∙ ap₂ (λ (r m : ℕ). r + m) (rank-map (raise d) (raise-keeps-order d) u)
@@ -193,47 +193,47 @@ last-digit : (n r : ℕ) → r < factorial (suc n) → r / factorial n ≤ n
 unfolding factorial
 last-digit n r h = omega (arith, div-lt-iff-lt-mul (factorial-positive n) .1 h)
 
-pub unrank-is-a-permutation : (n r : ℕ) → r < factorial n → Permutation n (unrankOf n r)
-unfolding unrankOf
+pub unrank-is-a-permutation : (n r : ℕ) → r < factorial n → Permutation n (arrangementUnrank n r)
+unfolding arrangementUnrank
 unrank-is-a-permutation zero r h = record { long = refl; below = tt; distinct = tt }
 unrank-is-a-permutation (suc n) r h =
-    lastly-is-a-permutation n (r / factorial n) (unrankOf n (r % factorial n)) (last-digit n r h)
+    lastly-is-a-permutation n (r / factorial n) (arrangementUnrank n (r % factorial n)) (last-digit n r h)
     (unrank-is-a-permutation n (r % factorial n) (mod-lt r (factorial-positive n)))
 
-pub rank-of-unrank : (n r : ℕ) → r < factorial n → rankOf (unrankOf n r) ≡ r
-unfolding unrankOf rankBelow factorial
+pub rank-of-unrank : (n r : ℕ) → r < factorial n → arrangementRank (arrangementUnrank n r) ≡ r
+unfolding arrangementUnrank rankBelow factorial
 rank-of-unrank zero r h = omega arith
 rank-of-unrank (suc n) r h =
     omega (
       arith,
-      lastly-rank n (r / factorial n) (unrankOf n (r % factorial n)) (last-digit n r h) (unrank-is-a-permutation n (r % factorial n) (mod-lt r (factorial-positive n))),
+      lastly-rank n (r / factorial n) (arrangementUnrank n (r % factorial n)) (last-digit n r h) (unrank-is-a-permutation n (r % factorial n) (mod-lt r (factorial-positive n))),
       rank-of-unrank n (r % factorial n) (mod-lt r (factorial-positive n)),
       div-add-mod' r (factorial n),
     )
 
-pub unrank-of-rank : (n : ℕ) (p : List ℕ) → Permutation n p → unrankOf n (rankOf p) ≡ p
-unfolding unrankOf
+pub unrank-of-rank : (n : ℕ) (p : List ℕ) → Permutation n p → arrangementUnrank n (arrangementRank p) ≡ p
+unfolding arrangementUnrank
 unrank-of-rank zero [] h = refl
 unrank-of-rank zero (x ∷ xs) h = absurd (suc-ne-zero (length xs) (h .long))
 unrank-of-rank (suc n) p h = go (parted n p h) (unrank-of-rank n)
   where
-    go : Parted n p → ((u : List ℕ) → Permutation n u → unrankOf n (rankOf u) ≡ u) → unrankOf (suc n) (rankOf p) ≡ p
+    go : Parted n p → ((u : List ℕ) → Permutation n u → arrangementUnrank n (arrangementRank u) ≡ u) → arrangementUnrank (suc n) (arrangementRank p) ≡ p
     go a ih = ap₂ lastly digit rest ∙ sym (a .whole)
       where
-        weight : rankOf p ≡ rankOf (a .rest) + a .last * factorial n
-        weight = ap rankOf (a .whole) ∙ lastly-rank n (a .last) (a .rest) (a .small) (a .permutation)
+        weight : arrangementRank p ≡ arrangementRank (a .rest) + a .last * factorial n
+        weight = ap arrangementRank (a .whole) ∙ lastly-rank n (a .last) (a .rest) (a .small) (a .permutation)
 
-        fits : rankOf (a .rest) < factorial n
-        fits = subst (λ (k : ℕ). rankOf (a .rest) < factorial k) (a .permutation .long) (rank-below-factorial (a .rest) (length (a .rest)))
+        fits : arrangementRank (a .rest) < factorial n
+        fits = subst (λ (k : ℕ). arrangementRank (a .rest) < factorial k) (a .permutation .long) (rank-below-factorial (a .rest) (length (a .rest)))
 
-        digit : rankOf p / factorial n ≡ a .last
+        digit : arrangementRank p / factorial n ≡ a .last
         digit =
-            ap (λ (r : ℕ). r / factorial n) weight ∙ add-mul-div-right (rankOf (a .rest)) (a .last) (factorial-positive n)
+            ap (λ (r : ℕ). r / factorial n) weight ∙ add-mul-div-right (arrangementRank (a .rest)) (a .last) (factorial-positive n)
             ∙ ap (λ (q : ℕ). q + a .last) (div-eq-of-lt fits) ∙ omega arith
 
-        rest : unrankOf n (rankOf p % factorial n) ≡ a .rest
+        rest : arrangementUnrank n (arrangementRank p % factorial n) ≡ a .rest
         rest =
-            ap (unrankOf n) (ap (λ (r : ℕ). r % factorial n) weight ∙ add-mul-mod-self-right (rankOf (a .rest)) (a .last) (factorial n) ∙ mod-eq-of-lt fits)
+            ap (arrangementUnrank n) (ap (λ (r : ℕ). r % factorial n) weight ∙ add-mul-mod-self-right (arrangementRank (a .rest)) (a .last) (factorial n) ∙ mod-eq-of-lt fits)
             ∙ ih (a .rest) (a .permutation)
 
 -- ---- digit by digit, the lowest first
@@ -249,9 +249,9 @@ mod-parts r m k a b =
     small : r % m + r / m % k * m < k * m
     small = omega (arith, mod-lt r a, mul-le-mul-right m (mod-lt (r / m) b))
 
-pub unrank-next : (n r : ℕ) → unrankOf (suc n) (r % factorial (suc n)) ≡ lastly (r / factorial n % suc n) (unrankOf n (r % factorial n))
-unfolding unrankOf factorial
-unrank-next n r = ap₂ lastly digit (ap (unrankOf n) rest)
+pub unrank-next : (n r : ℕ) → arrangementUnrank (suc n) (r % factorial (suc n)) ≡ lastly (r / factorial n % suc n) (arrangementUnrank n (r % factorial n))
+unfolding arrangementUnrank factorial
+unrank-next n r = ap₂ lastly digit (ap (arrangementUnrank n) rest)
   where
     m : ℕ
     m = factorial n

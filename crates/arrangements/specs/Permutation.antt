@@ -4,7 +4,7 @@
 --   identity n    0, 1 .. n-1, which sends each place to itself
 --   descending n    n-1 .. 1, 0
 --   compose p q    p after q, which sends i to p(q(i))
---   placeOf v p    the first place of p where v stands
+--   firstPlaceOf v p    the first place of p where v stands
 --   inverse p    sends each entry back to its place
 use mathlib.Core.Path.{_≡_}
 use mathlib.Core.Bool.{Bool, true, false}
@@ -48,9 +48,9 @@ descending (suc n) = n ∷ descending n
 abbrev pub compose : List ℕ → List ℕ → List ℕ
 compose p q = map (λ i. getD p i 0) q
 
-abbrev pub placeOf : ℕ → List ℕ → ℕ
-placeOf v [] = 0
-placeOf v (x ∷ xs) = pick (eqb x v) 0 (suc (placeOf v xs))
+abbrev pub firstPlaceOf : ℕ → List ℕ → ℕ
+firstPlaceOf v [] = 0
+firstPlaceOf v (x ∷ xs) = pick (eqb x v) 0 (suc (firstPlaceOf v xs))
 
 abbrev pub inverse : List ℕ → List ℕ
-inverse p = map (λ v. placeOf v p) (identity (length p))
+inverse p = map (λ v. firstPlaceOf v p) (identity (length p))

@@ -1,8 +1,8 @@
 -- The rank of a permutation in the factorial number system, and the permutation of a rank (01, "Permutations"; Knuth 7.2.1.2). Assumes nothing.
 --   digit p j    d_j: how many entries left of place j are smaller than the one there
---   rankOf p    the sum of d_j times j! over the places j of p
+--   arrangementRank p    the sum of d_j times j! over the places j of p
 --   lastly d u    the permutation of one entry more than u whose last entry is d
---   unrankOf n r    the permutation of n entries whose rank is r, by its last entry: that is r / (n-1)!, and what stands left of it has the rank r % (n-1)!
+--   arrangementUnrank n r    the permutation of n entries whose rank is r, by its last entry: that is r / (n-1)!, and what stands left of it has the rank r % (n-1)!
 -- That the rank is how many permutations stand earlier is the law `rank-is-how-many-earlier`.
 use mathlib.Core.List.{List, [], _∷_, _++_, map}
 use Prim.Native.Nat.{ℕ, zero, suc, _+_, _*_, _/_, _%_}
@@ -20,8 +20,8 @@ unfoldable pub rankBelow : List ℕ → ℕ → ℕ
 rankBelow p zero = 0
 rankBelow p (suc k) = rankBelow p k + digit p k * factorial k
 
-abbrev pub rankOf : List ℕ → ℕ
-rankOf p = rankBelow p (length p)
+abbrev pub arrangementRank : List ℕ → ℕ
+arrangementRank p = rankBelow p (length p)
 
 -- makes room for d: the numbers from d up are raised by one
 abbrev pub raise : ℕ → ℕ → ℕ
@@ -31,6 +31,6 @@ raise d x = pick (ltb x d) x (suc x)
 abbrev pub lastly : ℕ → List ℕ → List ℕ
 lastly d u = map (raise d) u ++ d ∷ []
 
-unfoldable pub unrankOf : ℕ → ℕ → List ℕ
-unrankOf zero r = []
-unrankOf (suc n) r = lastly (r / factorial n) (unrankOf n (r % factorial n))
+unfoldable pub arrangementUnrank : ℕ → ℕ → List ℕ
+arrangementUnrank zero r = []
+arrangementUnrank (suc n) r = lastly (r / factorial n) (arrangementUnrank n (r % factorial n))

@@ -22,7 +22,7 @@ use Rattle.words.specs.declared.Family.the-variants.{Forbidden, Allowed}
 use Rattle.answers.specs.declared.Sign.{Sign}
 use Rattle.answers.specs.declared.Sign.the-variants.{Plus, Minus}
 use Rattle.answers.specs.declared.Index.{Index}
-use Rattle.answers.specs.Says.{Says, refusesWith, gives, Term, placeOf}
+use Rattle.answers.specs.Says.{Says, refusesWith, gives, SignedTerm, placeOf}
 use Rattle.monotone_walk.specs.declared.Current.{Current}
 use Rattle.monotone_walk.specs.declared.Current.the-variants.{At, Nothing}
 use Rattle.monotone_walk.specs.declared.Walk.{Walk}
@@ -66,13 +66,13 @@ alphabetOfIndex x = x .alphabet
 abbrev pub bitsOfIndex : Index → ℕ
 bitsOfIndex x = x .bits
 
-abbrev pub minusOfTerm : Term → Bool
+abbrev pub minusOfTerm : SignedTerm → Bool
 minusOfTerm t = minus (t .sign)
 
-abbrev pub alphabetOfTerm : Term → ℕ
+abbrev pub alphabetOfTerm : SignedTerm → ℕ
 alphabetOfTerm t = t .index .alphabet
 
-abbrev pub bitsOfTerm : Term → ℕ
+abbrev pub bitsOfTerm : SignedTerm → ℕ
 bitsOfTerm t = t .index .bits
 
 abbrev pub minusOfRemoved : Removed → Bool
@@ -96,9 +96,9 @@ currentAt false x = Nothing
 abbrev pub walkAt : Bool → Bool → ℕ → ℕ → ℕ → Walk
 walkAt allowed standing over at remaining = record { current = currentAt standing (indexAt allowed over at); remaining = remaining }
 
-abbrev pub stands : Current → Bool
-stands (At x) = true
-stands Nothing = false
+abbrev pub standsSomewhere : Current → Bool
+standsSomewhere (At x) = true
+standsSomewhere Nothing = false
 
 abbrev pub alphabetThere : Current → ℕ
 alphabetThere (At x) = x .alphabet
@@ -109,7 +109,7 @@ bitsThere (At x) = x .bits
 bitsThere Nothing = 0
 
 abbrev pub standingOf : Walk → Bool
-standingOf w = stands (w .current)
+standingOf w = standsSomewhere (w .current)
 
 abbrev pub overOf : Walk → ℕ
 overOf w = alphabetThere (w .current)

@@ -7,7 +7,7 @@ ghost use Rattle.deletion.specs.Rules.{deletedSays};
 ghost use Rattle.boundary.specs.Boundary.{familyOf, answered, refusedWith, status, stored, itself, indexAt, minus};
 ghost use Rattle.boundary.specs.Boundary.{alphabetOfIndex, bitsOfIndex, minusOfTerm, alphabetOfTerm, bitsOfTerm};
 ghost use Rattle.boundary.specs.Boundary.{minusOfRemoved, symbolOfRemoved, alphabetOfRemoved, bitsOfRemoved};
-ghost use Rattle.boundary.specs.Boundary.{walkAt, stands, alphabetThere, bitsThere, standingOf, overOf, atOf, remainingOf};
+ghost use Rattle.boundary.specs.Boundary.{walkAt, standsSomewhere, alphabetThere, bitsThere, standingOf, overOf, atOf, remainingOf};
 ghost use Rattle.boundary.specs.Boundary.{alphabetGiven, bitsGiven, standingAfter, overAfter, atAfter, remainingAfter};
 use answers::Answer;
 use answers::Index;
@@ -165,7 +165,7 @@ pub fn walk(allowed: bool, standing: bool, over: u64, at: u64, remaining: u64) -
 
 // Whether a walk stands at an index.
 fn is_standing(current: Current) -> bool
-    ensures { λ r. ⌜ r ≡ stands current ⌝ }
+    ensures { λ r. ⌜ r ≡ standsSomewhere current ⌝ }
 {
     match current {
         Current::At(_) => true,

@@ -4,7 +4,7 @@
 --   symbolOfTaken t, rankOfTaken t    the parts of a deletion: the symbol, and the rank of the word that is left
 use Prim.Native.Nat.{ℕ}
 use Rattle.digits.specs.declared.DigitWord.{DigitWord}
-use Rattle.digits.specs.Rules.{Taken}
+use Rattle.digits.specs.Rules.{TakenOut}
 
 abbrev pub wordAt : ℕ → ℕ → ℕ → DigitWord
 wordAt radix degree rank = record { radix = radix; degree = degree; rank = rank }
@@ -15,8 +15,8 @@ degreeOfWord x = x .degree
 abbrev pub rankOfWord : DigitWord → ℕ
 rankOfWord x = x .rank
 
-abbrev pub symbolOfTaken : Taken → ℕ
+abbrev pub symbolOfTaken : TakenOut → ℕ
 symbolOfTaken t = t .symbol
 
-abbrev pub rankOfTaken : Taken → ℕ
+abbrev pub rankOfTaken : TakenOut → ℕ
 rankOfTaken t = t .left .rank

@@ -3,7 +3,7 @@
 ghost use mathlib.Core.Path.{_≡_};
 ghost use lib.ListN.{length};
 ghost use Rattle.answers.specs.Says.{after, placesOf};
-ghost use Rattle.digits.specs.Rules.{countSays, symbolsSays, symbolSays, multiplicitySays, stabilizerSays, fromSymbolsSays, concatSays, deleteSays, wordedSays, deletedSays};
+ghost use Rattle.digits.specs.Rules.{digitCountSays, symbolsSays, digitSymbolSays, multiplicitySays, digitStabilizerSays, fromSymbolsSays, concatSays, digitDeleteSays, wordedSays, digitDeletedSays};
 ghost use Rattle.boundary.specs.Boundary.{status, stored, itself};
 ghost use Rattle.capi.specs.DigitWords.{wordAt, degreeOfWord, rankOfWord, symbolOfTaken, rankOfTaken};
 use boundary::Status;
@@ -29,9 +29,9 @@ fn worded(a: Worded, degree: &mut u64, rank: &mut u64) -> Status
 
 // A symbol and a digit word that are an answer, as the symbol and the word's rank.
 fn deleted(a: Deleted, symbol: &mut u64, rest: &mut u64) -> Status
-    ensures back { λ r. ⌜ r ≡ status (deletedSays a) ⌝ }
-    ensures symbol { λ r. ⌜ now (symbol .exit) ≡ stored symbolOfTaken (deletedSays a) (now (symbol .entry)) ⌝ }
-    ensures rest { λ r. ⌜ now (rest .exit) ≡ stored rankOfTaken (deletedSays a) (now (rest .entry)) ⌝ }
+    ensures back { λ r. ⌜ r ≡ status (digitDeletedSays a) ⌝ }
+    ensures symbol { λ r. ⌜ now (symbol .exit) ≡ stored symbolOfTaken (digitDeletedSays a) (now (symbol .entry)) ⌝ }
+    ensures rest { λ r. ⌜ now (rest .exit) ≡ stored rankOfTaken (digitDeletedSays a) (now (rest .entry)) ⌝ }
 {
     match a {
         Deleted::At(s, x) => {
@@ -46,8 +46,8 @@ fn deleted(a: Deleted, symbol: &mut u64, rest: &mut u64) -> Status
 // How many digit words of a degree there are over a radix: 1 if the degree is above 64; 9 if radix^degree is 2^64 or more.
 #[no_mangle]
 pub extern "C" fn gudrenoss_digits_count(radix: u64, degree: u64, count: &mut u64) -> Status
-    ensures back { λ r. ⌜ r ≡ status (countSays radix degree) ⌝ }
-    ensures holds { λ r. ⌜ now (count .exit) ≡ stored itself (countSays radix degree) (now (count .entry)) ⌝ }
+    ensures back { λ r. ⌜ r ≡ status (digitCountSays radix degree) ⌝ }
+    ensures holds { λ r. ⌜ now (count .exit) ≡ stored itself (digitCountSays radix degree) (now (count .entry)) ⌝ }
 {
     boundary::number(digits::count(radix, degree), count)
 }
@@ -98,8 +98,8 @@ pub extern "C" fn gudrenoss_digits_symbol(
     p: u64,
     symbol: &mut u64,
 ) -> Status
-    ensures back { λ r. ⌜ r ≡ status (symbolSays (wordAt radix degree rank) p) ⌝ }
-    ensures holds { λ r. ⌜ now (symbol .exit) ≡ stored itself (symbolSays (wordAt radix degree rank) p) (now (symbol .entry)) ⌝ }
+    ensures back { λ r. ⌜ r ≡ status (digitSymbolSays (wordAt radix degree rank) p) ⌝ }
+    ensures holds { λ r. ⌜ now (symbol .exit) ≡ stored itself (digitSymbolSays (wordAt radix degree rank) p) (now (symbol .entry)) ⌝ }
 {
     let word = DigitWord {
         radix,
@@ -137,8 +137,8 @@ pub extern "C" fn gudrenoss_digits_stabilizer(
     rank: u64,
     stabilizer: &mut u64,
 ) -> Status
-    ensures back { λ r. ⌜ r ≡ status (stabilizerSays (wordAt radix degree rank)) ⌝ }
-    ensures holds { λ r. ⌜ now (stabilizer .exit) ≡ stored itself (stabilizerSays (wordAt radix degree rank)) (now (stabilizer .entry)) ⌝ }
+    ensures back { λ r. ⌜ r ≡ status (digitStabilizerSays (wordAt radix degree rank)) ⌝ }
+    ensures holds { λ r. ⌜ now (stabilizer .exit) ≡ stored itself (digitStabilizerSays (wordAt radix degree rank)) (now (stabilizer .entry)) ⌝ }
 {
     let word = DigitWord {
         radix,
@@ -188,9 +188,9 @@ pub extern "C" fn gudrenoss_digits_delete(
     symbol: &mut u64,
     rest: &mut u64,
 ) -> Status
-    ensures back { λ r. ⌜ r ≡ status (deleteSays (wordAt radix degree rank) p) ⌝ }
-    ensures symbol { λ r. ⌜ now (symbol .exit) ≡ stored symbolOfTaken (deleteSays (wordAt radix degree rank) p) (now (symbol .entry)) ⌝ }
-    ensures rest { λ r. ⌜ now (rest .exit) ≡ stored rankOfTaken (deleteSays (wordAt radix degree rank) p) (now (rest .entry)) ⌝ }
+    ensures back { λ r. ⌜ r ≡ status (digitDeleteSays (wordAt radix degree rank) p) ⌝ }
+    ensures symbol { λ r. ⌜ now (symbol .exit) ≡ stored symbolOfTaken (digitDeleteSays (wordAt radix degree rank) p) (now (symbol .entry)) ⌝ }
+    ensures rest { λ r. ⌜ now (rest .exit) ≡ stored rankOfTaken (digitDeleteSays (wordAt radix degree rank) p) (now (rest .entry)) ⌝ }
 {
     let word = DigitWord {
         radix,

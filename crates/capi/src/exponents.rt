@@ -4,7 +4,7 @@ ghost use mathlib.Core.Path.{_≡_};
 ghost use lib.ListN.{length};
 ghost use Rattle.answers.specs.Says.{after, placesOf};
 ghost use Rattle.composition.specs.Rules.{wordSays, fromWordSays, addSays};
-ghost use Rattle.composition_rank.specs.Rules.{rankSays, fromRankSays};
+ghost use Rattle.composition_rank.specs.Rules.{exponentRankSays, fromRankSays};
 ghost use Rattle.boundary.specs.Boundary.{status, stored, itself};
 use boundary::Status;
 
@@ -41,8 +41,8 @@ pub extern "C" fn gudrenoss_exponents_from_word(
 // The rank of the word of a list of exponents: 1 if it is too wide.
 #[no_mangle]
 pub extern "C" fn gudrenoss_exponents_rank(entries: &[u64], rank: &mut u64) -> Status
-    ensures back { λ r. ⌜ r ≡ status (rankSays (now (entries .entry))) ⌝ }
-    ensures holds { λ r. ⌜ now (rank .exit) ≡ stored itself (rankSays (now (entries .entry))) (now (rank .entry)) ⌝ }
+    ensures back { λ r. ⌜ r ≡ status (exponentRankSays (now (entries .entry))) ⌝ }
+    ensures holds { λ r. ⌜ now (rank .exit) ≡ stored itself (exponentRankSays (now (entries .entry))) (now (rank .entry)) ⌝ }
 {
     boundary::number(composition_rank::rank(entries), rank)
 }

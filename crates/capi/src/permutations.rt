@@ -1,17 +1,17 @@
 // Permutations, for programs in C (docs/RULES.md, section 8). A permutation is lent as its 64 entries, in an array of 64 places, and its length; it is good if its
 // entries up to the length are a bijection of 0 .. length - 1. A result is written to such places, all 64 of them, and its length beside them; the places past it are 0.
 ghost use mathlib.Core.Path.{_≡_};
-ghost use Rattle.permutation.specs.Record.{arrangedSays, signsSays};
+ghost use Rattle.permutation.specs.Record.{arrangedSays, signatureSays};
 ghost use Rattle.permutation.specs.Rules.{imageSays};
 ghost use Rattle.permutation_group.specs.Rules.{inverseSays, composeSays, signSays};
-ghost use Rattle.permutation_order.specs.Rules.{rankSays, unrankSays, successorSays};
+ghost use Rattle.permutation_order.specs.Rules.{arrangementRankSays, arrangementUnrankSays, arrangementSuccessorSays};
 ghost use Rattle.boundary.specs.Boundary.{status, stored, itself, minus as isMinus};
 ghost use Rattle.capi.specs.Permutations.{lentAs, entriesOf, lengthOf};
 use boundary::Status;
 use permutation::Arranged;
 use permutation::CAPACITY;
 use permutation::Permutation;
-use permutation::Signs;
+use permutation::Signature;
 use permutation::Verdict;
 
 // The record of a permutation that is lent.
@@ -44,16 +44,16 @@ fn arranged(a: Arranged, entries: &mut [u64; CAPACITY], len: &mut u64) -> Status
 }
 
 // A sign that is an answer, as whether it is minus.
-fn signed(a: Signs, out: &mut bool) -> Status
-    ensures back { λ r. ⌜ r ≡ status (signsSays a) ⌝ }
-    ensures holds { λ r. ⌜ now (out .exit) ≡ stored isMinus (signsSays a) (now (out .entry)) ⌝ }
+fn signed(a: Signature, out: &mut bool) -> Status
+    ensures back { λ r. ⌜ r ≡ status (signatureSays a) ⌝ }
+    ensures holds { λ r. ⌜ now (out .exit) ≡ stored isMinus (signatureSays a) (now (out .entry)) ⌝ }
 {
     match a {
-        Signs::Is(s) => {
+        Signature::Is(s) => {
             *out = boundary::is_minus(s);
             boundary::answer()
         }
-        Signs::Refused(e) => boundary::refused(e),
+        Signature::Refused(e) => boundary::refused(e),
     }
 }
 
@@ -123,8 +123,8 @@ pub extern "C" fn gudrenoss_permutation_sign(
 // The rank in colex order: 1 if the length is above 20; 10 if p is not good.
 #[no_mangle]
 pub extern "C" fn gudrenoss_permutation_rank(p: &[u64; CAPACITY], n: u64, rank: &mut u64) -> Status
-    ensures back { λ r. ⌜ r ≡ status (rankSays (lentAs (now (p .entry)) n)) ⌝ }
-    ensures holds { λ r. ⌜ now (rank .exit) ≡ stored itself (rankSays (lentAs (now (p .entry)) n)) (now (rank .entry)) ⌝ }
+    ensures back { λ r. ⌜ r ≡ status (arrangementRankSays (lentAs (now (p .entry)) n)) ⌝ }
+    ensures holds { λ r. ⌜ now (rank .exit) ≡ stored itself (arrangementRankSays (lentAs (now (p .entry)) n)) (now (rank .entry)) ⌝ }
 {
     boundary::number(permutation_order::rank(lent(p, n)), rank)
 }
@@ -137,9 +137,9 @@ pub extern "C" fn gudrenoss_permutation_unrank(
     entries: &mut [u64; CAPACITY],
     len: &mut u64,
 ) -> Status
-    ensures back { λ a. ⌜ a ≡ status (unrankSays n r) ⌝ }
-    ensures holds { λ a. ⌜ now (entries .exit) ≡ stored entriesOf (unrankSays n r) (now (entries .entry)) ⌝ }
-    ensures long { λ a. ⌜ now (len .exit) ≡ stored lengthOf (unrankSays n r) (now (len .entry)) ⌝ }
+    ensures back { λ a. ⌜ a ≡ status (arrangementUnrankSays n r) ⌝ }
+    ensures holds { λ a. ⌜ now (entries .exit) ≡ stored entriesOf (arrangementUnrankSays n r) (now (entries .entry)) ⌝ }
+    ensures long { λ a. ⌜ now (len .exit) ≡ stored lengthOf (arrangementUnrankSays n r) (now (len .entry)) ⌝ }
 {
     arranged(permutation_order::unrank(n, r), entries, len)
 }
@@ -152,9 +152,9 @@ pub extern "C" fn gudrenoss_permutation_successor(
     entries: &mut [u64; CAPACITY],
     len: &mut u64,
 ) -> Status
-    ensures back { λ r. ⌜ r ≡ status (successorSays (lentAs (now (p .entry)) n)) ⌝ }
-    ensures holds { λ r. ⌜ now (entries .exit) ≡ stored entriesOf (successorSays (lentAs (now (p .entry)) n)) (now (entries .entry)) ⌝ }
-    ensures long { λ r. ⌜ now (len .exit) ≡ stored lengthOf (successorSays (lentAs (now (p .entry)) n)) (now (len .entry)) ⌝ }
+    ensures back { λ r. ⌜ r ≡ status (arrangementSuccessorSays (lentAs (now (p .entry)) n)) ⌝ }
+    ensures holds { λ r. ⌜ now (entries .exit) ≡ stored entriesOf (arrangementSuccessorSays (lentAs (now (p .entry)) n)) (now (entries .entry)) ⌝ }
+    ensures long { λ r. ⌜ now (len .exit) ≡ stored lengthOf (arrangementSuccessorSays (lentAs (now (p .entry)) n)) (now (len .entry)) ⌝ }
 {
     arranged(permutation_order::successor(lent(p, n)), entries, len)
 }

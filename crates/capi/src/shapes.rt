@@ -2,7 +2,7 @@
 ghost use mathlib.Core.Path.{_≡_};
 ghost use lib.ListN.{length};
 ghost use Rattle.answers.specs.Says.{after, placesOf};
-ghost use Rattle.cartesian.specs.Rules.{countSays, linearizeSays, delinearizeSays};
+ghost use Rattle.cartesian.specs.Rules.{shapeCountSays, linearizeSays, delinearizeSays};
 ghost use Rattle.cartesian_strides.specs.Rules.{stridesSays, cornerSays};
 ghost use Rattle.boundary.specs.Boundary.{status, stored, itself};
 use boundary::Status;
@@ -10,8 +10,8 @@ use boundary::Status;
 // How many digit tuples a shape has, the product of its radices: 1 if there are more than 16 axes; 9 if it is 2^64 or more.
 #[no_mangle]
 pub extern "C" fn gudrenoss_shape_count(radices: &[u64], count: &mut u64) -> Status
-    ensures back { λ r. ⌜ r ≡ status (countSays (now (radices .entry))) ⌝ }
-    ensures holds { λ r. ⌜ now (count .exit) ≡ stored itself (countSays (now (radices .entry))) (now (count .entry)) ⌝ }
+    ensures back { λ r. ⌜ r ≡ status (shapeCountSays (now (radices .entry))) ⌝ }
+    ensures holds { λ r. ⌜ now (count .exit) ≡ stored itself (shapeCountSays (now (radices .entry))) (now (count .entry)) ⌝ }
 {
     boundary::number(cartesian::shape_count(radices), count)
 }

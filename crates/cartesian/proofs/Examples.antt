@@ -5,7 +5,7 @@ use Prim.Native.Nat.{ℕ, _^_}
 use lib.ListN.{replicate}
 use Rattle.positional.specs.Positional.{product, digitsOf}
 use Rattle.answers.specs.Says.{refuses, gives}
-use Rattle.cartesian.specs.Rules.{countSays, linearizeSays, delinearizeSays}
+use Rattle.cartesian.specs.Rules.{shapeCountSays, linearizeSays, delinearizeSays}
 
 abbrev cube : List ℕ
 cube = 2 ∷ 3 ∷ 4 ∷ []
@@ -16,7 +16,7 @@ cube-tuple = refl
 
 -- ---- the rule for 9
 
-wide-count : countSays (2 ^ 63 ∷ 2 ∷ []) ≡ refuses 9
+wide-count : shapeCountSays (2 ^ 63 ∷ 2 ∷ []) ≡ refuses 9
 unfolding product
 wide-count = refl
 
@@ -28,11 +28,11 @@ high-zero = 2 ^ 40 ∷ 2 ^ 40 ∷ 0 ∷ []
 abbrev low-zero : List ℕ
 low-zero = 0 ∷ 2 ^ 40 ∷ 2 ^ 40 ∷ []
 
-count-of-high-zero : countSays high-zero ≡ gives 0
+count-of-high-zero : shapeCountSays high-zero ≡ gives 0
 unfolding product
 count-of-high-zero = refl
 
-count-of-low-zero : countSays low-zero ≡ gives 0
+count-of-low-zero : shapeCountSays low-zero ≡ gives 0
 unfolding product
 count-of-low-zero = refl
 
@@ -53,7 +53,7 @@ no-number-of-zeros = refl
 
 -- ---- no axes, and too many
 
-no-axes-count : countSays [] ≡ gives 1
+no-axes-count : shapeCountSays [] ≡ gives 1
 unfolding product
 no-axes-count = refl
 

@@ -13,7 +13,7 @@ use lib.Seq.{drop-cons, drop-length}
 use Rattle.positional.specs.Positional.{product, stride}
 use Rattle.positional.proofs.Strides.{stride-next, product-split, zero-radix}
 use Rattle.answers.specs.Says.{gives, refuses}
-use Rattle.cartesian.specs.Checks.{fits}
+use Rattle.cartesian.specs.Checks.{numberSays}
 use Rattle.cartesian.proofs.Fits.{fits-small, fits-big}
 
 -- ---- the product of all radices, from the last down
@@ -32,7 +32,7 @@ falling-turn rs p i e h l = go (i - 1) (omega arith)
         ∙ ap (λ (x : ℕ). getD rs j 0 * x) (e ∙ ap (λ (m : ℕ). product (drop m rs)) q)
         ∙ sym (ap product (drop-cons rs j 0 (omega arith)))
 
-pub falling-ends : (rs : List ℕ) (p i : ℕ) → p ≡ product (drop i rs) → p < 2 ^ 64 → i ≡ 0 → gives p ≡ fits (product rs)
+pub falling-ends : (rs : List ℕ) (p i : ℕ) → p ≡ product (drop i rs) → p < 2 ^ 64 → i ≡ 0 → gives p ≡ numberSays (product rs)
 falling-ends rs p i e h z =
     let q : p ≡ product rs = e ∙ ap (λ (j : ℕ). product (drop j rs)) z in
     ap gives q ∙ sym (fits-small (product rs) (omega arith))
@@ -48,10 +48,10 @@ passing-turn rs i p h n =
     let some : 0 < getD rs i 0 = omega (arith, n) in
     omega (arith, ap (stride rs) (add-one i), stride-next rs i h, le-mul-of-pos-right (stride rs i) some)
 
-pub passing-stops : (rs : List ℕ) (i : ℕ) → i < length rs → getD rs i 0 ≡ 0 → gives (getD rs i 0) ≡ fits (product rs)
-passing-stops rs i h e = ap gives e ∙ sym (ap fits (zero-radix rs i h e) ∙ fits-small 0 (omega arith))
+pub passing-stops : (rs : List ℕ) (i : ℕ) → i < length rs → getD rs i 0 ≡ 0 → gives (getD rs i 0) ≡ numberSays (product rs)
+passing-stops rs i h e = ap gives e ∙ sym (ap numberSays (zero-radix rs i h e) ∙ fits-small 0 (omega arith))
 
-pub passing-ends : (rs : List ℕ) (j i : ℕ) → 0 < stride rs i → i ≡ j → 2 ^ 64 ≤ product (drop j rs) → refuses 9 ≡ fits (product rs)
+pub passing-ends : (rs : List ℕ) (j i : ℕ) → 0 < stride rs i → i ≡ j → 2 ^ 64 ≤ product (drop j rs) → refuses 9 ≡ numberSays (product rs)
 passing-ends rs j i p e h =
     let some : 0 < stride rs j = subst (λ (k : ℕ). 0 < stride rs k) e p in
     sym (fits-big (product rs) (omega (arith, h, product-split rs j, mul-comm (stride rs j) (product (drop j rs)), le-mul-of-pos-right (product (drop j rs)) some)))

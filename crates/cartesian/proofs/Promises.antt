@@ -21,20 +21,20 @@ use Rattle.words.specs.Colex.{ColexLt}
 use Rattle.words.specs.HowMany.{HowMany}
 use Rattle.words.proofs.Colex.{to-colex, from-colex}
 use Rattle.words.proofs.HowMany.{how-many-is-one-number}
-use Rattle.positional.specs.Positional.{product, strides, Digits, numberOf, weighed, digitsOf}
+use Rattle.positional.specs.Positional.{product, strides, Digits, positionalValue, weighed, digitsOf}
 use Rattle.positional.proofs.Digits.{digit-below, number-below, digits-good, number-of-digits, digits-of-number}
 use Rattle.positional.proofs.Counted.{number-rises, before-of-number, product-is-how-many-digits, number-is-how-many-earlier}
 use Rattle.positional.proofs.Strides.{zero-radix, number-is-weighed}
 use Rattle.answers.specs.Says.{refuses, gives}
-use Rattle.cartesian.specs.Checks.{fits, within}
-use Rattle.cartesian.specs.Rules.{countSays, linearizeSays, delinearizeSays}
+use Rattle.cartesian.specs.Checks.{numberSays, within}
+use Rattle.cartesian.specs.Rules.{shapeCountSays, linearizeSays, delinearizeSays}
 use Rattle.cartesian.proofs.Fits.{fits-small}
 use Rattle.cartesian.proofs.Tuples.{within-is-digits}
 use Rattle.cartesian.proofs.Rules.{count-given, Linear, linearize-given, linearize-gives, Delinear, delinearize-given, delinearize-gives}
 
 -- ---- what is counted
 
-pub count-is-how-many-tuples : (rs : List ℕ) (c : ℕ) → countSays rs ≡ gives c → HowMany (Digits rs) c
+pub count-is-how-many-tuples : (rs : List ℕ) (c : ℕ) → shapeCountSays rs ≡ gives c → HowMany (Digits rs) c
 count-is-how-many-tuples rs c e = subst (HowMany (Digits rs)) (sym (count-given rs c e .is)) (product-is-how-many-digits rs)
 
 pub linearize-is-how-many-earlier : (rs ds : List ℕ) (x : ℕ) → linearizeSays rs ds ≡ gives x → HowMany (λ es. Digits rs es × ColexLt es ds) x
@@ -50,14 +50,14 @@ linearize-keeps-the-order rs ds es x y e f =
       λ h. to-colex ds es (before-of-number rs ds es (l .good) (m .good) (omega (arith, l .is, m .is))),
     )
 
-pub how-many-tuples-is-the-count : (rs : List ℕ) (c : ℕ) → length rs ≤ 16 → HowMany (Digits rs) c → countSays rs ≡ fits c
+pub how-many-tuples-is-the-count : (rs : List ℕ) (c : ℕ) → length rs ≤ 16 → HowMany (Digits rs) c → shapeCountSays rs ≡ numberSays c
 how-many-tuples-is-the-count rs c l h =
-    simp (le-ltb 16 (length rs) l) (ap fits (how-many-is-one-number (Digits rs) (product rs) c (product-is-how-many-digits rs) h))
+    simp (le-ltb 16 (length rs) l) (ap numberSays (how-many-is-one-number (Digits rs) (product rs) c (product-is-how-many-digits rs) h))
 
 -- ---- a radix 0, at axis i
 
-pub zero-radix-counts-none : (rs : List ℕ) (i : ℕ) → length rs ≤ 16 → i < length rs → getD rs i 0 ≡ 0 → countSays rs ≡ gives 0
-zero-radix-counts-none rs i l h e = simp (le-ltb 16 (length rs) l) (ap fits (zero-radix rs i h e) ∙ fits-small 0 (omega arith))
+pub zero-radix-counts-none : (rs : List ℕ) (i : ℕ) → length rs ≤ 16 → i < length rs → getD rs i 0 ≡ 0 → shapeCountSays rs ≡ gives 0
+zero-radix-counts-none rs i l h e = simp (le-ltb 16 (length rs) l) (ap numberSays (zero-radix rs i h e) ∙ fits-small 0 (omega arith))
 
 pub zero-radix-has-no-tuple : (rs : List ℕ) (i x room : ℕ) → length rs ≤ 16 → i < length rs → getD rs i 0 ≡ 0 → delinearizeSays rs x room ≡ refuses 3
 zero-radix-has-no-tuple rs i x room l h e = simp (zero-radix-counts-none rs i l h e, le-leb 0 x zero-le)
@@ -71,11 +71,11 @@ zero-radix-has-no-number rs ds i l h e k = simp (le-ltb 16 (length rs) l, eq-eqb
 
 -- ---- the two ways
 
-pub linearize-answers : (rs ds : List ℕ) (c : ℕ) → countSays rs ≡ gives c → Digits rs ds → (x : ℕ) × (linearizeSays rs ds ≡ gives x) × (x < c)
+pub linearize-answers : (rs ds : List ℕ) (c : ℕ) → shapeCountSays rs ≡ gives c → Digits rs ds → (x : ℕ) × (linearizeSays rs ds ≡ gives x) × (x < c)
 linearize-answers rs ds c e g =
-    (numberOf rs ds, linearize-gives rs ds c e g, omega (arith, number-below rs ds g, count-given rs c e .is))
+    (positionalValue rs ds, linearize-gives rs ds c e g, omega (arith, number-below rs ds g, count-given rs c e .is))
 
-pub delinearize-answers : (rs : List ℕ) (x room c : ℕ) → countSays rs ≡ gives c → x < c → length rs ≤ room
+pub delinearize-answers : (rs : List ℕ) (x room c : ℕ) → shapeCountSays rs ≡ gives c → x < c → length rs ≤ room
     → (ds : List ℕ) × (delinearizeSays rs x room ≡ gives ds) × Digits rs ds
 delinearize-answers rs x room c e h l =
     (digitsOf rs x, delinearize-gives rs x room c e h l, digits-good rs x (omega (arith, count-given rs c e .is)))

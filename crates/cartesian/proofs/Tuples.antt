@@ -17,7 +17,7 @@ use lib.Dec.{ltb}
 use lib.ListN.{length, getD, drop, drop-of-length-le}
 use lib.Seq.{drop-cons, drop-length}
 use Rattle.words.specs.Pick.{pick}
-use Rattle.positional.specs.Positional.{Digits, numberOf}
+use Rattle.positional.specs.Positional.{Digits, positionalValue}
 use Rattle.positional.proofs.Digits.{digits-long}
 use Rattle.positional.proofs.Parts.{number-high-least}
 use Rattle.cartesian.specs.Checks.{within}
@@ -55,15 +55,15 @@ within-end rs ds i h = ap (λ (l : List ℕ). within l (drop i ds)) (drop-of-len
 
 pub record Above (rs ds : List ℕ) (n i : ℕ) : Type 0 where
   pub axes : i ≤ length rs
-  pub is : n ≡ numberOf (drop i rs) (drop i ds)
+  pub is : n ≡ positionalValue (drop i rs) (drop i ds)
 
 pub above-starts : (rs ds : List ℕ) → Above rs ds 0 (length rs)
-unfolding numberOf
-above-starts rs ds = record { axes = omega arith; is = sym (ap (λ (l : List ℕ). numberOf l (drop (length rs) ds)) (drop-length rs)) }
+unfolding positionalValue
+above-starts rs ds = record { axes = omega arith; is = sym (ap (λ (l : List ℕ). positionalValue l (drop (length rs) ds)) (drop-length rs)) }
 
 -- one digit more: j is the axis below i
 pub above-turn : (rs ds : List ℕ) (n i : ℕ) → Digits rs ds → Above rs ds n i → 0 < i → Above rs ds (n * getD rs (i - 1) 0 + getD ds (i - 1) 0) (i - 1)
-unfolding numberOf
+unfolding positionalValue
 above-turn rs ds n i g k h = go (i - 1) (omega arith)
   where
     go : (j : ℕ) → i ≡ suc j → Above rs ds (n * getD rs j 0 + getD ds j 0) j
@@ -72,13 +72,13 @@ above-turn rs ds n i g k h = go (i - 1) (omega arith)
           axes = omega (arith, k .axes);
           is = omega (
             arith,
-            ap (λ (m : ℕ). getD rs j 0 * m) (k .is ∙ ap (λ (m : ℕ). numberOf (drop m rs) (drop m ds)) e),
-            ap₂ numberOf (drop-cons rs j 0 (omega (arith, k .axes))) (drop-cons ds j 0 (omega (arith, k .axes, digits-long rs ds g))),
+            ap (λ (m : ℕ). getD rs j 0 * m) (k .is ∙ ap (λ (m : ℕ). positionalValue (drop m rs) (drop m ds)) e),
+            ap₂ positionalValue (drop-cons rs j 0 (omega (arith, k .axes))) (drop-cons ds j 0 (omega (arith, k .axes, digits-long rs ds g))),
           );
         }
 
-pub above-fits : (rs ds : List ℕ) (n i : ℕ) → Digits rs ds → Above rs ds n i → n ≤ numberOf rs ds
+pub above-fits : (rs ds : List ℕ) (n i : ℕ) → Digits rs ds → Above rs ds n i → n ≤ positionalValue rs ds
 above-fits rs ds n i g k = omega (arith, k .is, number-high-least rs ds i g)
 
-pub above-ends : (rs ds : List ℕ) (n i : ℕ) → Above rs ds n i → i ≡ 0 → n ≡ numberOf rs ds
-above-ends rs ds n i k e = k .is ∙ ap (λ (j : ℕ). numberOf (drop j rs) (drop j ds)) e
+pub above-ends : (rs ds : List ℕ) (n i : ℕ) → Above rs ds n i → i ≡ 0 → n ≡ positionalValue rs ds
+above-ends rs ds n i k e = k .is ∙ ap (λ (j : ℕ). positionalValue (drop j rs) (drop j ds)) e

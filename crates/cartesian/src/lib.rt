@@ -6,10 +6,10 @@ ghost use mathlib.Core.List.{_++_};
 ghost use Prim.Native.Nat.{_+_, _*_, _^_, _<_, _≤_};
 ghost use lib.Dec.{leb};
 ghost use lib.ListN.{length, drop};
-ghost use Rattle.positional.specs.Positional.{product as productOf, Digits, numberOf, digitsOf};
+ghost use Rattle.positional.specs.Positional.{product as productOf, Digits, positionalValue, digitsOf};
 ghost use Rattle.answers.specs.Says.{answerSays, placesOf, after};
-ghost use Rattle.cartesian.specs.Checks.{fits, within as withinOf};
-ghost use Rattle.cartesian.specs.Rules.{countSays, linearizeSays, delinearizeSays};
+ghost use Rattle.cartesian.specs.Checks.{numberSays, within as withinOf};
+ghost use Rattle.cartesian.specs.Rules.{shapeCountSays, linearizeSays, delinearizeSays};
 use answers::Answer;
 use answers::Refusal;
 
@@ -26,7 +26,7 @@ pub fn exceeds(a: u64, b: u64) -> bool
 // The product of the radices, where that of those from an axis up is 2^64 or more: 0 if a radix below is 0, and otherwise 9.
 fn past(radices: &[u64], from: usize) -> Answer
     requires { ⌜ (from ≤ length (now radices)) × (2 ^ 64 ≤ productOf (drop from (now radices))) ⌝ }
-    ensures { λ r. ⌜ answerSays r ≡ fits (productOf (now (radices .entry))) ⌝ }
+    ensures { λ r. ⌜ answerSays r ≡ numberSays (productOf (now (radices .entry))) ⌝ }
 {
     let mut i = 0;
     while i < from {
@@ -41,7 +41,7 @@ fn past(radices: &[u64], from: usize) -> Answer
 
 // The product of the radices, from the last down: 9 if it is 2^64 or more.
 fn size(radices: &[u64]) -> Answer
-    ensures { λ r. ⌜ answerSays r ≡ fits (productOf (now (radices .entry))) ⌝ }
+    ensures { λ r. ⌜ answerSays r ≡ numberSays (productOf (now (radices .entry))) ⌝ }
 {
     let mut product: u64 = 1;
     let mut i = radices.len();
@@ -58,7 +58,7 @@ fn size(radices: &[u64]) -> Answer
 
 // How many digit tuples a shape has: 1 if it has more than 16 axes; 9.
 pub fn shape_count(radices: &[u64]) -> Answer
-    ensures { λ r. ⌜ answerSays r ≡ countSays (now (radices .entry)) ⌝ }
+    ensures { λ r. ⌜ answerSays r ≡ shapeCountSays (now (radices .entry)) ⌝ }
 {
     if 16 < radices.len() {
         return Answer::Refused(Refusal::TooWide);
@@ -84,7 +84,7 @@ fn within(radices: &[u64], digits: &[u64]) -> bool
 // The number that has the digits, from the highest digit down.
 fn number(radices: &[u64], digits: &[u64]) -> u64
     requires { ⌜ Digits (now radices) (now digits) × (productOf (now radices) < 2 ^ 64) ⌝ }
-    ensures { λ r. ⌜ r ≡ numberOf (now (radices .entry)) (now (digits .entry)) ⌝ }
+    ensures { λ r. ⌜ r ≡ positionalValue (now (radices .entry)) (now (digits .entry)) ⌝ }
 {
     let mut above: u64 = 0;
     let mut i = radices.len();

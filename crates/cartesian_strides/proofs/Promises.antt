@@ -4,11 +4,11 @@ use mathlib.Core.Path.{_≡_, _∙_}
 use mathlib.Core.List.{List}
 use Prim.Native.Nat.{ℕ}
 use lib.ListN.{length, replicate}
-use Rattle.positional.specs.Positional.{numberOf, digitsOf}
+use Rattle.positional.specs.Positional.{positionalValue, digitsOf}
 use Rattle.positional.proofs.Corner.{corner-is-number}
 use Rattle.answers.specs.Says.{gives}
 use Rattle.cartesian_strides.specs.Rules.{cornerSays}
 use Rattle.cartesian_strides.proofs.Rules.{corner-given}
 
-pub corner-is-a-number : (rs : List ℕ) (axes x : ℕ) → cornerSays rs axes ≡ gives x → x ≡ numberOf rs (digitsOf (replicate (length rs) 2) axes)
+pub corner-is-a-number : (rs : List ℕ) (axes x : ℕ) → cornerSays rs axes ≡ gives x → x ≡ positionalValue rs (digitsOf (replicate (length rs) 2) axes)
 corner-is-a-number rs axes x e = corner-given rs axes x e .1 ∙ corner-is-number rs axes (corner-given rs axes x e .0)

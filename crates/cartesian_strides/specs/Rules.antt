@@ -10,7 +10,7 @@ use Rattle.words.specs.Bits.{setBits}
 use Rattle.bits.specs.Member.{reaches}
 use Rattle.positional.specs.Positional.{strides, cornerOf}
 use Rattle.answers.specs.Says.{Says, gives, refusedIf}
-use Rattle.cartesian.specs.Checks.{fits}
+use Rattle.cartesian.specs.Checks.{numberSays}
 use Rattle.cartesian_strides.specs.Partial.{tooBig}
 use Rattle.cartesian.specs.Rules.{wide}
 
@@ -18,4 +18,4 @@ abbrev pub stridesSays : List ℕ → ℕ → Says (List ℕ)
 stridesSays rs room = refusedIf (wide rs) 1 (refusedIf (tooBig rs (length rs - 1)) 9 (refusedIf (ltb room (length rs)) 8 (gives (strides rs))))
 
 abbrev pub cornerSays : List ℕ → ℕ → Says ℕ
-cornerSays rs axes = refusedIf (wide rs) 1 (refusedIf (reaches (length rs) (setBits axes)) 7 (fits (cornerOf rs (setBits axes))))
+cornerSays rs axes = refusedIf (wide rs) 1 (refusedIf (reaches (length rs) (setBits axes)) 7 (numberSays (cornerOf rs (setBits axes))))

@@ -7,7 +7,7 @@ ghost use Prim.Native.Nat.{ℕ, _+_, _*_, _-_, _<_, _≤_};
 ghost use lib.ListN.{length, drop};
 ghost use Rattle.positional.specs.Positional.{strides as stridesOf};
 ghost use Rattle.answers.specs.Says.{answerSays, placesOf, after};
-ghost use Rattle.cartesian.specs.Checks.{fits};
+ghost use Rattle.cartesian.specs.Checks.{numberSays};
 ghost use Rattle.cartesian_strides.specs.Partial.{tooBig};
 ghost use Rattle.cartesian_strides.specs.Rules.{stridesSays, cornerSays};
 use answers::Answer;
@@ -75,7 +75,7 @@ pub fn strides(radices: &[u64], out: &mut [u64]) -> Answer
 
 // The sum of two numbers, each of which may be 2^64 or more: refusal 9 stands for that.
 fn plus(a: Answer, b: Answer) -> Answer
-    ensures { λ r. ⌜ ((m n : ℕ) → answerSays a ≡ fits m → answerSays b ≡ fits n → answerSays r ≡ fits (m + n)) ⌝ }
+    ensures { λ r. ⌜ ((m n : ℕ) → answerSays a ≡ numberSays m → answerSays b ≡ numberSays n → answerSays r ≡ numberSays (m + n)) ⌝ }
 {
     let Answer::Is(x) = a else {
         return a;
@@ -91,7 +91,7 @@ fn plus(a: Answer, b: Answer) -> Answer
 
 // Such a number times a radix: 0 times it is 0.
 fn times(a: Answer, r: u64) -> Answer
-    ensures { λ p. ⌜ ((n : ℕ) → answerSays a ≡ fits n → answerSays p ≡ fits (n * r)) ⌝ }
+    ensures { λ p. ⌜ ((n : ℕ) → answerSays a ≡ numberSays n → answerSays p ≡ numberSays (n * r)) ⌝ }
 {
     if r == 0 {
         return Answer::Is(0);

@@ -1,5 +1,5 @@
 -- What the rank of exponents and the exponents of a rank are, for all inputs, in document 01's numbers: the checks in 01's order, and then the value. Assumes nothing.
---   rankSays es    1; the Allowed rank of the word
+--   exponentRankSays es    1; the Allowed rank of the word
 --   fromRankSays n k r room    1; 3; 8; the exponents of the word of rank r
 use mathlib.Core.List.{List}
 use Prim.Native.Nat.{ℕ}
@@ -11,11 +11,11 @@ use Rattle.words.specs.Rank.{rankOf}
 use Rattle.words.specs.Unrank.{unrankOf}
 use Rattle.answers.specs.Says.{Says, gives, refusedIf}
 use Rattle.composition.specs.Exponents.{sumOf, spelled, tally}
-use Rattle.composition.specs.Rules.{tooWide}
+use Rattle.composition.specs.Rules.{exponentsTooWide}
 
-abbrev pub rankSays : List ℕ → Says ℕ
-rankSays es = refusedIf (tooWide (length es) (sumOf es)) 1 (gives (rankOf Allowed (spelled es)))
+abbrev pub exponentRankSays : List ℕ → Says ℕ
+exponentRankSays es = refusedIf (exponentsTooWide (length es) (sumOf es)) 1 (gives (rankOf Allowed (spelled es)))
 
 abbrev pub fromRankSays : ℕ → ℕ → ℕ → ℕ → Says (List ℕ)
 fromRankSays n k r room =
-    refusedIf (tooWide n k) 1 (refusedIf (leb (count Allowed n k) r) 3 (refusedIf (ltb room n) 8 (gives (tally n (unrankOf Allowed k r)))))
+    refusedIf (exponentsTooWide n k) 1 (refusedIf (leb (count Allowed n k) r) 3 (refusedIf (ltb room n) 8 (gives (tally n (unrankOf Allowed k r)))))

@@ -2,14 +2,14 @@
 ghost use mathlib.Core.Path.{_≡_};
 ghost use lib.ListN.{length};
 ghost use Rattle.answers.specs.Says.{answerSays, placesOf, after};
-ghost use Rattle.composition_rank.specs.Rules.{rankSays, fromRankSays};
+ghost use Rattle.composition_rank.specs.Rules.{exponentRankSays, fromRankSays};
 use answers::Answer;
 use answers::Refusal;
 use words::Family;
 
 // The rank of a list of exponents, which is the Allowed rank of its word: 1.
 pub fn rank(entries: &[u64]) -> Answer
-    ensures { λ r. ⌜ answerSays r ≡ rankSays (now (entries .entry)) ⌝ }
+    ensures { λ r. ⌜ answerSays r ≡ exponentRankSays (now (entries .entry)) ⌝ }
 {
     let k = composition::degree(entries);
     if 64 < k {

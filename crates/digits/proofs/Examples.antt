@@ -9,15 +9,15 @@ use Rattle.answers.specs.Says.{refuses, gives}
 use Rattle.positional.specs.Positional.{digitsOf}
 use Rattle.deletion.specs.Multiplicities.{ceilingOf, stabilizerBelow}
 use Rattle.digits.specs.declared.DigitWord.{DigitWord}
-use Rattle.digits.specs.Rules.{countSays, checkSays, stabilizerSays, fromSymbolsSays, concatSays}
+use Rattle.digits.specs.Rules.{digitCountSays, checkSays, digitStabilizerSays, fromSymbolsSays, concatSays}
 
 abbrev word : ℕ → ℕ → ℕ → DigitWord
 word n k r = record { radix = n; degree = k; rank = r }
 
-largest : countSays 2 63 ≡ gives 9223372036854775808
+largest : digitCountSays 2 63 ≡ gives 9223372036854775808
 largest = refl
 
-too-big : countSays 2 64 ≡ refuses 9
+too-big : digitCountSays 2 64 ≡ refuses 9
 too-big = refl
 
 no-symbols : checkSays (word 0 0 0) ≡ gives 1
@@ -42,9 +42,9 @@ forty-and-forty = refl
 thirty-two-and-thirty-two : concatSays (word 2 32 0) (word 2 32 0) ≡ refuses 9
 thirty-two-and-thirty-two = refl
 
-one-symbol-no-rank : stabilizerSays (word 1 21 1) ≡ refuses 3
+one-symbol-no-rank : digitStabilizerSays (word 1 21 1) ≡ refuses 3
 one-symbol-no-rank = refl
 
-one-symbol-stabilizer : stabilizerSays (word 1 21 0) ≡ refuses 9
+one-symbol-stabilizer : digitStabilizerSays (word 1 21 0) ≡ refuses 9
 unfolding digitsOf ceilingOf stabilizerBelow multiplicity factorial
 one-symbol-stabilizer = refl

@@ -13,17 +13,17 @@ use lib.ListN.{length, replicate, length-append, length-replicate, replicate-app
 use Rattle.answers.specs.Says.{gives}
 use Rattle.words.specs.Without.{without}
 use Rattle.words.proofs.Positions.{without-long}
-use Rattle.positional.specs.Positional.{product, stride, Digits, numberOf, digitsOf}
+use Rattle.positional.specs.Positional.{product, stride, Digits, positionalValue, digitsOf}
 use Rattle.positional.proofs.Digits.{digits-good, number-of-digits, number-below}
 use Rattle.positional.proofs.Parts.{digits-append, number-append, number-without}
 use Rattle.positional.proofs.Equal.{product-equal, stride-equal, without-equal}
 use Rattle.digits.specs.declared.DigitWord.{DigitWord}
-use Rattle.digits.specs.Rules.{symbolsOf, wordOf, checkSays, given, joinSays, concatSays, takeSays, deleteSays}
+use Rattle.digits.specs.Rules.{symbolsOf, digitWordOf, checkSays, given, digitJoinSays, concatSays, takeSays, digitDeleteSays}
 use Rattle.digits.proofs.Rules.{given-passed}
 use Rattle.digits.proofs.Positions.{symbols-long, symbol-at}
 
-pub concat-passed : (x y : DigitWord) (c d : ℕ) → gives c ≡ checkSays x → gives d ≡ checkSays y → concatSays x y ≡ joinSays x y
-concat-passed x y c d e f = given-passed x c (given y (joinSays x y)) e ∙ given-passed y d (joinSays x y) f
+pub concat-passed : (x y : DigitWord) (c d : ℕ) → gives c ≡ checkSays x → gives d ≡ checkSays y → concatSays x y ≡ digitJoinSays x y
+concat-passed x y c d e f = given-passed x c (given y (digitJoinSays x y)) e ∙ given-passed y d (digitJoinSays x y) f
 
 -- ---- over equal radices: n is the radix, and k and r are a degree and a rank
 
@@ -34,7 +34,7 @@ symbols n k r = digitsOf (replicate k n) r
 good : (n k r : ℕ) → r < n ^ k → Digits (replicate k n) (symbols n k r)
 good n k r h = digits-good (replicate k n) r (omega (arith, product-equal n k))
 
-back : (n k r : ℕ) → r < n ^ k → numberOf (replicate k n) (symbols n k r) ≡ r
+back : (n k r : ℕ) → r < n ^ k → positionalValue (replicate k n) (symbols n k r) ≡ r
 back n k r h = number-of-digits (replicate k n) r (omega (arith, product-equal n k))
 
 -- l and q are those of the second word, and s is the count of the first
@@ -45,13 +45,13 @@ module _ (n k r l q s : ℕ) (low : r < n ^ k) (high : q < n ^ l) (e : s ≡ n ^
   row : replicate (length (symbols n k r ++ symbols n l q)) n ≡ replicate k n ++ replicate l n
   row = ap (λ (j : ℕ). replicate j n) joined-long ∙ sym (replicate-append-replicate k l n)
 
-  pub joined-is : r + q * s ≡ numberOf (replicate (length (symbols n k r ++ symbols n l q)) n) (symbols n k r ++ symbols n l q)
+  pub joined-is : r + q * s ≡ positionalValue (replicate (length (symbols n k r ++ symbols n l q)) n) (symbols n k r ++ symbols n l q)
   joined-is =
       let u : List ℕ = symbols n k r in
       let v : List ℕ = symbols n l q in
-      let a : numberOf (replicate (length (u ++ v)) n) (u ++ v) ≡ numberOf (replicate k n) u + product (replicate k n) * numberOf (replicate l n) v =
-      ap (λ (rs : List ℕ). numberOf rs (u ++ v)) row ∙ number-append (replicate k n) u (replicate l n) v (symbols-long n k r ∙ sym (length-replicate k n)) in
-      let b : product (replicate k n) * numberOf (replicate l n) v ≡ q * s = ap₂ (λ (x y : ℕ). x * y) (product-equal n k ∙ sym e) (back n l q high) ∙ mul-comm s q in
+      let a : positionalValue (replicate (length (u ++ v)) n) (u ++ v) ≡ positionalValue (replicate k n) u + product (replicate k n) * positionalValue (replicate l n) v =
+      ap (λ (rs : List ℕ). positionalValue rs (u ++ v)) row ∙ number-append (replicate k n) u (replicate l n) v (symbols-long n k r ∙ sym (length-replicate k n)) in
+      let b : product (replicate k n) * positionalValue (replicate l n) v ≡ q * s = ap₂ (λ (x y : ℕ). x * y) (product-equal n k ∙ sym e) (back n l q high) ∙ mul-comm s q in
       omega (arith, a, b, back n k r low)
 
   pub joined-small : r + q * s < n ^ (k + l)
@@ -63,7 +63,7 @@ module _ (n k r l q s : ℕ) (low : r < n ^ k) (high : q < n ^ l) (e : s ≡ n ^
         arith,
         number-below (replicate k n ++ replicate l n) (u ++ v) g,
         joined-is,
-        ap (λ (rs : List ℕ). numberOf rs (u ++ v)) row,
+        ap (λ (rs : List ℕ). positionalValue rs (u ++ v)) row,
         ap product (replicate-append-replicate k l n) ∙ product-equal n (k + l),
       )
 
@@ -75,13 +75,13 @@ module _ (n k r p s : ℕ) (low : r < n ^ k) (within : p < k) (e : s ≡ n ^ p) 
   fewer : without p (replicate k n) ≡ replicate (k - 1) n
   fewer = let m : k ≡ suc (k - 1) = omega arith in ap (λ (j : ℕ). without p (replicate j n)) m ∙ without-equal n (k - 1) p (omega arith)
 
-  pub taken-is : r % s + r / s / n * s ≡ numberOf (replicate (length (without p (symbols n k r))) n) (without p (symbols n k r))
+  pub taken-is : r % s + r / s / n * s ≡ positionalValue (replicate (length (without p (symbols n k r))) n) (without p (symbols n k r))
   taken-is =
       let w : List ℕ = symbols n k r in
       let rs : List ℕ = replicate k n in
-      let a : numberOf (replicate (length (without p w)) n) (without p w) ≡ numberOf (without p rs) (without p w) =
-      ap (λ (ss : List ℕ). numberOf ss (without p w)) (ap (λ (j : ℕ). replicate j n) taken-long ∙ sym fewer) in
-      let b : numberOf (without p rs) (without p w) ≡ r % stride rs p + stride rs p * (r / stride rs (suc p)) =
+      let a : positionalValue (replicate (length (without p w)) n) (without p w) ≡ positionalValue (without p rs) (without p w) =
+      ap (λ (ss : List ℕ). positionalValue ss (without p w)) (ap (λ (j : ℕ). replicate j n) taken-long ∙ sym fewer) in
+      let b : positionalValue (without p rs) (without p w) ≡ r % stride rs p + stride rs p * (r / stride rs (suc p)) =
       number-without rs w p (good n k r low) ∙ ap (λ (x : ℕ). x % stride rs p + stride rs p * (x / stride rs (suc p))) (back n k r low) in
       let f : stride rs p ≡ s = stride-equal n k p (omega arith) ∙ sym e in
       let h : stride rs (suc p) ≡ s * n = stride-equal n k (suc p) within ∙ pow-succ' n p ∙ mul-comm n (n ^ p) ∙ ap (λ (x : ℕ). x * n) (sym e) in
@@ -96,7 +96,7 @@ module _ (n k r p s : ℕ) (low : r < n ^ k) (within : p < k) (e : s ≡ n ^ p) 
 
 pub taken-given : (x : DigitWord) (c p s : ℕ) → gives c ≡ checkSays x → x .rank < x .radix ^ x .degree → p < x .degree → s ≡ x .radix ^ p
     → gives (record { symbol = x .rank / s % x .radix; left = record { radix = x .radix; degree = x .degree - 1; rank = x .rank % s + x .rank / s / x .radix * s } })
-    ≡ deleteSays x p
+    ≡ digitDeleteSays x p
 taken-given x c p s e low h q =
     ap₂ (λ (a : ℕ) (y : DigitWord). gives (record { symbol = a; left = y }))
     (symbol-at (x .radix) (x .degree) (x .rank) p s h q)
@@ -114,7 +114,7 @@ joined-given x y c d s e f low high same short small q =
     ap₂ (λ (k m : ℕ). gives (record { radix = n; degree = k; rank = m }))
     (sym (joined-long n (x .degree) (x .rank) (y .degree) (y .rank) s low h q))
     (joined-is n (x .degree) (x .rank) (y .degree) (y .rank) s low h q)
-    ∙ ap (λ (m : ℕ). gives (wordOf n (symbolsOf x ++ digitsOf (replicate (y .degree) m) (y .rank)))) same
+    ∙ ap (λ (m : ℕ). gives (digitWordOf n (symbolsOf x ++ digitsOf (replicate (y .degree) m) (y .rank)))) same
     ∙ sym (concat-passed x y c d e f ∙ simp (eq-eqb (x .radix) (y .radix) same, le-ltb 64 (x .degree + y .degree) short, lt-leb (2 ^ 64) (x .radix ^ (x .degree + y .degree)) small))
 
 pub joint-rank : (x y : DigitWord) (s : ℕ) → x .rank < x .radix ^ x .degree → y .rank < y .radix ^ y .degree → x .radix ≡ y .radix → s ≡ x .radix ^ x .degree

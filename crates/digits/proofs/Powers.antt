@@ -13,7 +13,7 @@ use native.Mathlib.Omega.{arith}
 use borrow.Author.Tests.{le-leb, leb-true}
 use lib.Dec.{leb}
 use Rattle.answers.specs.Says.{refuses}
-use Rattle.cartesian.specs.Checks.{fits}
+use Rattle.cartesian.specs.Checks.{numberSays}
 
 pub power-turn : (n i p : ℕ) → p ≡ n ^ i → p * n ≡ n ^ (i + 1)
 power-turn n i p e = ap (λ (q : ℕ). q * n) e ∙ mul-comm (n ^ i) n ∙ sym (pow-succ' n i) ∙ ap (λ (j : ℕ). n ^ j) (sym (add-one i))
@@ -23,7 +23,7 @@ factor-positive : (p n b : ℕ) → b < p * n → 0 < n
 factor-positive p zero b h = absurd (omega (arith, mul-zero p))
 factor-positive p (suc n) b h = zero-lt-suc n
 
-pub power-stops : (n i k p : ℕ) → p ≡ n ^ i → i < k → leb (2 ^ 64) (p * n) ≡ true → refuses 9 ≡ fits (n ^ k)
+pub power-stops : (n i k p : ℕ) → p ≡ n ^ i → i < k → leb (2 ^ 64) (p * n) ≡ true → refuses 9 ≡ numberSays (n ^ k)
 power-stops n i k p e h t =
     let b : 2 ^ 64 ≤ p * n = leb-true (2 ^ 64) (p * n) t in
     let l : n ^ (i + 1) ≤ n ^ k = pow-le-pow-right (factor-positive p n 0 (omega arith)) (omega arith) in

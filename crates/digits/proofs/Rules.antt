@@ -17,21 +17,21 @@ use Rattle.answers.specs.declared.Answer.{Answer}
 use Rattle.answers.specs.declared.Answer.the-variants.{Refused}
 use Rattle.answers.specs.Says.{Says, refuses, refusesWith, gives, refusedIf, andThen, answerSays}
 use Rattle.answers.proofs.Says.{gives-same, gives-never, passed, then-gave}
-use Rattle.cartesian.specs.Checks.{fits}
+use Rattle.cartesian.specs.Checks.{numberSays}
 use Rattle.cartesian.proofs.Fits.{fits-small, fits-given}
 use Rattle.digits.specs.declared.DigitWord.{DigitWord}
-use Rattle.digits.specs.Rules.{symbolsOf, countSays, checkSays, given, symbolsSays}
+use Rattle.digits.specs.Rules.{symbolsOf, digitCountSays, checkSays, given, symbolsSays}
 use Rattle.digits.proofs.Powers.{radix-positive, power-positive, power-within}
 
 -- ---- the checks by the count
 
-pub checked-refused : (x : DigitWord) (a : Answer) (e : Refusal) → answerSays a ≡ countSays (x .radix) (x .degree) → a ≡ Refused e → answerSays a ≡ checkSays x
+pub checked-refused : (x : DigitWord) (a : Answer) (e : Refusal) → answerSays a ≡ digitCountSays (x .radix) (x .degree) → a ≡ Refused e → answerSays a ≡ checkSays x
 checked-refused x a e p q = ap answerSays q ∙ ap (λ s. andThen s (λ c. refusedIf (leb c (x .rank)) 3 (gives c))) (sym (ap answerSays q) ∙ p)
 
-pub checked-none : (x : DigitWord) (c : ℕ) → gives c ≡ countSays (x .radix) (x .degree) → c ≤ x .rank → refuses 3 ≡ checkSays x
+pub checked-none : (x : DigitWord) (c : ℕ) → gives c ≡ digitCountSays (x .radix) (x .degree) → c ≤ x .rank → refuses 3 ≡ checkSays x
 checked-none x c p h = sym (simp (le-leb c (x .rank) h)) ∙ ap (λ s. andThen s (λ d. refusedIf (leb d (x .rank)) 3 (gives d))) p
 
-pub checked-is : (x : DigitWord) (c : ℕ) → gives c ≡ countSays (x .radix) (x .degree) → x .rank < c → gives c ≡ checkSays x
+pub checked-is : (x : DigitWord) (c : ℕ) → gives c ≡ digitCountSays (x .radix) (x .degree) → x .rank < c → gives c ≡ checkSays x
 checked-is x c p h = sym (simp (lt-leb c (x .rank) h)) ∙ ap (λ s. andThen s (λ d. refusedIf (leb d (x .rank)) 3 (gives d))) p
 
 -- ---- calls on a given word
@@ -49,11 +49,11 @@ pub record Known (x : DigitWord) (c : ℕ) : Type 0 where
   pub low : x .rank < x .radix ^ x .degree
 
 pub known : (x : DigitWord) (c : ℕ) → gives c ≡ checkSays x → Known x c
-known x c e = go (then-gave (countSays (x .radix) (x .degree)) (λ d. refusedIf (leb d (x .rank)) 3 (gives d)) c (sym e))
+known x c e = go (then-gave (digitCountSays (x .radix) (x .degree)) (λ d. refusedIf (leb d (x .rank)) 3 (gives d)) c (sym e))
   where
-    go : (d : ℕ) × (countSays (x .radix) (x .degree) ≡ gives d) × (refusedIf (leb d (x .rank)) 3 (gives d) ≡ gives c) → Known x c
+    go : (d : ℕ) × (digitCountSays (x .radix) (x .degree) ≡ gives d) × (refusedIf (leb d (x .rank)) 3 (gives d) ≡ gives c) → Known x c
     go t =
-        let p = passed (ltb 64 (x .degree)) 1 (fits (x .radix ^ x .degree)) (t .0) (t .1) in
+        let p = passed (ltb 64 (x .degree)) 1 (numberSays (x .radix ^ x .degree)) (t .0) (t .1) in
         let f = fits-given (x .radix ^ x .degree) (t .0) (p .1) in
         let q = passed (leb (t .0) (x .rank)) 3 (gives (t .0)) c (t .2) in
         record {
@@ -69,16 +69,16 @@ pub radix-some : (x : DigitWord) (c p : ℕ) → Known x c → p < x .degree →
 radix-some x c p k h = radix-positive (x .radix) (x .degree) (x .rank) p (k .low) h
 
 -- the radix to a smaller power fits as well
-pub stride-given : (x : DigitWord) (c p : ℕ) → Known x c → p < x .degree → fits (x .radix ^ p) ≡ gives (x .radix ^ p)
+pub stride-given : (x : DigitWord) (c p : ℕ) → Known x c → p < x .degree → numberSays (x .radix ^ p) ≡ gives (x .radix ^ p)
 stride-given x c p k h = fits-small (x .radix ^ p) (power-within (x .radix) (x .degree) (x .rank) p (k .low) (k .small) h)
 
-pub stride-is : (x : DigitWord) (c p s : ℕ) → Known x c → p < x .degree → gives s ≡ fits (x .radix ^ p) → s ≡ x .radix ^ p
+pub stride-is : (x : DigitWord) (c p s : ℕ) → Known x c → p < x .degree → gives s ≡ numberSays (x .radix ^ p) → s ≡ x .radix ^ p
 stride-is x c p s k h e = gives-same s (x .radix ^ p) (e ∙ stride-given x c p k h)
 
-pub stride-some : (x : DigitWord) (c p s : ℕ) → Known x c → p < x .degree → gives s ≡ fits (x .radix ^ p) → 0 < s
+pub stride-some : (x : DigitWord) (c p s : ℕ) → Known x c → p < x .degree → gives s ≡ numberSays (x .radix ^ p) → 0 < s
 stride-some x c p s k h e = omega (arith, stride-is x c p s k h e, power-positive (x .radix) p (radix-some x c p k h))
 
-pub stride-refused : {P : Type 0} (x : DigitWord) (c p d : ℕ) (f : List ℕ) → Known x c → p < x .degree → refusesWith d f ≡ fits (x .radix ^ p) → P
+pub stride-refused : {P : Type 0} (x : DigitWord) (c p d : ℕ) (f : List ℕ) → Known x c → p < x .degree → refusesWith d f ≡ numberSays (x .radix ^ p) → P
 stride-refused x c p d f k h e = absurd (gives-never (x .radix ^ p) d f (sym (stride-given x c p k h) ∙ sym e))
 
 -- ---- the symbols

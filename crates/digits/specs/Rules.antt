@@ -1,21 +1,21 @@
 -- What each call on digit words answers, for all inputs, in document 01's numbers: its checks in 01's order, and then the value. A digit word is its radix, its
 -- degree and its rank; its symbols are the digits of the rank in as many equal radices as the degree says. Assumes nothing.
 --   symbolsOf x    the symbols, that of position 0 first
---   wordOf n w    the digit word over radix n that has the symbols w
---   countSays n k    1 if k is above 64; 9; the count n ^ k
+--   digitWordOf n w    the digit word over radix n that has the symbols w
+--   digitCountSays n k    1 if k is above 64; 9; the count n ^ k
 --   checkSays x    the checks of a given word: those of its count; 3 if the rank is not below it; the count
 --   given x s    these checks, and then s
 --   symbolsSays x room    these; 8; the symbols
---   symbolSays x p    these; 7; the symbol at position p
+--   digitSymbolSays x p    these; 7; the symbol at position p
 --   multiplicitySays x s    these; how many positions carry s
---   stabilizerSays x    these; 9; the stabilizer of the symbols
+--   digitStabilizerSays x    these; 9; the stabilizer of the symbols
 --   fromSymbolsSays n w    1 if there are more than 64; 7 if a symbol is not below the radix; 9; the digit word
---   joinSays x y    8 if the radices differ; 1; 9; the word of the symbols of x, and then those of y
+--   digitJoinSays x y    8 if the radices differ; 1; 9; the word of the symbols of x, and then those of y
 --   concatSays x y    the checks of x; those of y; and then these
---   Taken    a symbol and what is left without it
+--   TakenOut    a symbol and what is left without it
 --   takeSays x p    7; the symbol at position p, and the word without that position
---   deleteSays x p    the checks of x; and then these
---   wordedSays, deletedSays    what each case of an answer means
+--   digitDeleteSays x p    the checks of x; and then these
+--   wordedSays, digitDeletedSays    what each case of an answer means
 use mathlib.Core.Bool.{not}
 use mathlib.Core.List.{List, _++_}
 use Prim.Native.Nat.{ℕ, _+_, _^_}
@@ -25,8 +25,8 @@ use Rattle.words.specs.Inversions.{multiplicity}
 use Rattle.words.specs.Without.{without}
 use Rattle.answers.specs.Says.{Says, refusesWith, gives, refusedIf, andThen, numberOf as refusalOf, carriedBy}
 use Rattle.bits.specs.Member.{reaches}
-use Rattle.positional.specs.Positional.{numberOf, digitsOf}
-use Rattle.cartesian.specs.Checks.{fits}
+use Rattle.positional.specs.Positional.{positionalValue, digitsOf}
+use Rattle.cartesian.specs.Checks.{numberSays}
 use Rattle.deletion.specs.Multiplicities.{stabilizerOf}
 use Rattle.digits.specs.declared.DigitWord.{DigitWord}
 use Rattle.digits.specs.declared.Worded.{Worded}
@@ -37,16 +37,16 @@ use Rattle.digits.specs.declared.Deleted.the-variants as deleted
 abbrev pub symbolsOf : DigitWord → List ℕ
 symbolsOf x = digitsOf (replicate (x .degree) (x .radix)) (x .rank)
 
-abbrev pub wordOf : ℕ → List ℕ → DigitWord
-wordOf n w = record { radix = n; degree = length w; rank = numberOf (replicate (length w) n) w }
+abbrev pub digitWordOf : ℕ → List ℕ → DigitWord
+digitWordOf n w = record { radix = n; degree = length w; rank = positionalValue (replicate (length w) n) w }
 
 -- ---- the count, and the checks of a given word
 
-abbrev pub countSays : ℕ → ℕ → Says ℕ
-countSays n k = refusedIf (ltb 64 k) 1 (fits (n ^ k))
+abbrev pub digitCountSays : ℕ → ℕ → Says ℕ
+digitCountSays n k = refusedIf (ltb 64 k) 1 (numberSays (n ^ k))
 
 abbrev pub checkSays : DigitWord → Says ℕ
-checkSays x = andThen (countSays (x .radix) (x .degree)) (λ c. refusedIf (leb c (x .rank)) 3 (gives c))
+checkSays x = andThen (digitCountSays (x .radix) (x .degree)) (λ c. refusedIf (leb c (x .rank)) 3 (gives c))
 
 abbrev pub given : {A : Type 0} → DigitWord → Says A → Says A
 given x s = andThen (checkSays x) (λ c. s)
@@ -56,44 +56,44 @@ given x s = andThen (checkSays x) (λ c. s)
 abbrev pub symbolsSays : DigitWord → ℕ → Says (List ℕ)
 symbolsSays x room = given x (refusedIf (ltb room (x .degree)) 8 (gives (symbolsOf x)))
 
-abbrev pub symbolSays : DigitWord → ℕ → Says ℕ
-symbolSays x p = given x (refusedIf (leb (x .degree) p) 7 (gives (getD (symbolsOf x) p 0)))
+abbrev pub digitSymbolSays : DigitWord → ℕ → Says ℕ
+digitSymbolSays x p = given x (refusedIf (leb (x .degree) p) 7 (gives (getD (symbolsOf x) p 0)))
 
 abbrev pub multiplicitySays : DigitWord → ℕ → Says ℕ
 multiplicitySays x s = given x (gives (multiplicity s (symbolsOf x)))
 
-abbrev pub stabilizerSays : DigitWord → Says ℕ
-stabilizerSays x = given x (fits (stabilizerOf (symbolsOf x)))
+abbrev pub digitStabilizerSays : DigitWord → Says ℕ
+digitStabilizerSays x = given x (numberSays (stabilizerOf (symbolsOf x)))
 
 abbrev pub fromSymbolsSays : ℕ → List ℕ → Says DigitWord
 fromSymbolsSays n w =
-    refusedIf (ltb 64 (length w)) 1 (refusedIf (reaches n w) 7 (refusedIf (leb (2 ^ 64) (n ^ length w)) 9 (gives (wordOf n w))))
+    refusedIf (ltb 64 (length w)) 1 (refusedIf (reaches n w) 7 (refusedIf (leb (2 ^ 64) (n ^ length w)) 9 (gives (digitWordOf n w))))
 
 -- ---- concatenation and deletion
 
 -- two words that have passed their checks
-abbrev pub joinSays : DigitWord → DigitWord → Says DigitWord
-joinSays x y =
+abbrev pub digitJoinSays : DigitWord → DigitWord → Says DigitWord
+digitJoinSays x y =
     refusedIf (not (eqb (x .radix) (y .radix))) 8
     (refusedIf (ltb 64 (x .degree + y .degree)) 1
     (refusedIf (leb (2 ^ 64) (x .radix ^ (x .degree + y .degree))) 9
-    (gives (wordOf (x .radix) (symbolsOf x ++ symbolsOf y)))))
+    (gives (digitWordOf (x .radix) (symbolsOf x ++ symbolsOf y)))))
 
 abbrev pub concatSays : DigitWord → DigitWord → Says DigitWord
-concatSays x y = given x (given y (joinSays x y))
+concatSays x y = given x (given y (digitJoinSays x y))
 
-pub record Taken : Type 0 where
+pub record TakenOut : Type 0 where
   pub symbol : ℕ
   pub left : DigitWord
 
 -- a word that has passed its checks
-abbrev pub takeSays : DigitWord → ℕ → Says Taken
+abbrev pub takeSays : DigitWord → ℕ → Says TakenOut
 takeSays x p =
     refusedIf (leb (x .degree) p) 7
-    (gives (record { symbol = getD (symbolsOf x) p 0; left = wordOf (x .radix) (without p (symbolsOf x)) }))
+    (gives (record { symbol = getD (symbolsOf x) p 0; left = digitWordOf (x .radix) (without p (symbolsOf x)) }))
 
-abbrev pub deleteSays : DigitWord → ℕ → Says Taken
-deleteSays x p = given x (takeSays x p)
+abbrev pub digitDeleteSays : DigitWord → ℕ → Says TakenOut
+digitDeleteSays x p = given x (takeSays x p)
 
 -- ---- what each case of an answer means
 
@@ -101,6 +101,6 @@ abbrev pub wordedSays : Worded → Says DigitWord
 wordedSays (worded.Is x) = gives x
 wordedSays (worded.Refused e) = refusesWith (refusalOf e) (carriedBy e)
 
-abbrev pub deletedSays : Deleted → Says Taken
-deletedSays (deleted.At s x) = gives (record { symbol = s; left = x })
-deletedSays (deleted.Refused e) = refusesWith (refusalOf e) (carriedBy e)
+abbrev pub digitDeletedSays : Deleted → Says TakenOut
+digitDeletedSays (deleted.At s x) = gives (record { symbol = s; left = x })
+digitDeletedSays (deleted.Refused e) = refusesWith (refusalOf e) (carriedBy e)

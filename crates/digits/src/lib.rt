@@ -6,10 +6,10 @@ ghost use lib.ListN.{length, take, replicate};
 ghost use Rattle.words.specs.Word.{Below};
 ghost use Rattle.words.specs.Inversions.{multiplicity as multiplicityOf};
 ghost use Rattle.answers.specs.Says.{answerSays, placesOf, after, gives};
-ghost use Rattle.positional.specs.Positional.{numberOf, digitsOf};
-ghost use Rattle.cartesian.specs.Checks.{fits};
+ghost use Rattle.positional.specs.Positional.{positionalValue, digitsOf};
+ghost use Rattle.cartesian.specs.Checks.{numberSays};
 ghost use Rattle.deletion.specs.Multiplicities.{stabilizerOf};
-ghost use Rattle.digits.specs.Rules.{countSays, checkSays, symbolsSays, symbolSays, multiplicitySays, stabilizerSays, fromSymbolsSays, concatSays, deleteSays, wordedSays, deletedSays};
+ghost use Rattle.digits.specs.Rules.{digitCountSays, checkSays, symbolsSays, digitSymbolSays, multiplicitySays, digitStabilizerSays, fromSymbolsSays, concatSays, digitDeleteSays, wordedSays, digitDeletedSays};
 use answers::Answer;
 use answers::Refusal;
 
@@ -34,7 +34,7 @@ pub enum Deleted {
 
 // The radix to a power: 9 if that is 2^64 or more. 0^0 is 1.
 fn power(radix: u64, degree: u64) -> Answer
-    ensures { λ r. ⌜ answerSays r ≡ fits (radix ^ degree) ⌝ }
+    ensures { λ r. ⌜ answerSays r ≡ numberSays (radix ^ degree) ⌝ }
 {
     let mut product: u64 = 1;
     let mut i: u64 = 0;
@@ -50,7 +50,7 @@ fn power(radix: u64, degree: u64) -> Answer
 
 // How many words of a degree there are over a radix: 1 if the degree is above 64; 9.
 pub fn count(radix: u64, degree: u64) -> Answer
-    ensures { λ r. ⌜ answerSays r ≡ countSays radix degree ⌝ }
+    ensures { λ r. ⌜ answerSays r ≡ digitCountSays radix degree ⌝ }
 {
     if 64 < degree {
         return Answer::Refused(Refusal::TooWide);
@@ -110,7 +110,7 @@ pub fn symbols(x: DigitWord, out: &mut [u64]) -> Answer
 
 // The symbol at a position of a word: 1, 9, 3; 7 if it has no such position.
 pub fn symbol(x: DigitWord, p: u64) -> Answer
-    ensures { λ r. ⌜ answerSays r ≡ symbolSays x p ⌝ }
+    ensures { λ r. ⌜ answerSays r ≡ digitSymbolSays x p ⌝ }
 {
     let radix = x.radix;
     let degree = x.degree;
@@ -161,7 +161,7 @@ pub fn multiplicity(x: DigitWord, s: u64) -> Answer
 // symbol has occurred by then.
 fn stabilizer_of(word: &[u64], upto: u64) -> Answer
     requires { ⌜ upto ≤ length (now word) ⌝ }
-    ensures { λ r. ⌜ answerSays r ≡ fits (stabilizerOf (take upto (now (word .entry)))) ⌝ }
+    ensures { λ r. ⌜ answerSays r ≡ numberSays (stabilizerOf (take upto (now (word .entry)))) ⌝ }
 {
     let mut product: u64 = 1;
     let mut i: u64 = 0;
@@ -178,7 +178,7 @@ fn stabilizer_of(word: &[u64], upto: u64) -> Answer
 
 // The stabilizer of a word: 1, 9, 3; 9 if the product of the factorials of its multiplicities is 2^64 or more.
 pub fn stabilizer(x: DigitWord) -> Answer
-    ensures { λ r. ⌜ answerSays r ≡ stabilizerSays x ⌝ }
+    ensures { λ r. ⌜ answerSays r ≡ digitStabilizerSays x ⌝ }
 {
     let mut word = [0u64; 64];
     let a = symbols(x, &mut word);
@@ -191,7 +191,7 @@ pub fn stabilizer(x: DigitWord) -> Answer
 // The symbols as a positional number, from the highest position down.
 fn number(radix: u64, symbols: &[u64]) -> u64
     requires { ⌜ Below radix (now symbols) × (radix ^ length (now symbols) < 2 ^ 64) ⌝ }
-    ensures { λ r. ⌜ r ≡ numberOf (replicate (length (now (symbols .entry))) radix) (now (symbols .entry)) ⌝ }
+    ensures { λ r. ⌜ r ≡ positionalValue (replicate (length (now (symbols .entry))) radix) (now (symbols .entry)) ⌝ }
 {
     let mut above: u64 = 0;
     let mut i = symbols.len();
@@ -265,7 +265,7 @@ pub fn concat(x: DigitWord, y: DigitWord) -> Worded
 
 // The symbol at a position, and the word without it: 1, 9, 3; 7 if there is no such position. The positions above slide down and close the gap.
 pub fn delete(x: DigitWord, p: u64) -> Deleted
-    ensures { λ r. ⌜ deletedSays r ≡ deleteSays x p ⌝ }
+    ensures { λ r. ⌜ digitDeletedSays r ≡ digitDeleteSays x p ⌝ }
 {
     let radix = x.radix;
     let rank = x.rank;

@@ -31,7 +31,7 @@ use Rattle.words.proofs.Inversions.{increasing-has-no-inversions, apart-is-no-e
 use Rattle.answers.specs.declared.Index.{Index}
 use Rattle.answers.specs.declared.Sign.{Sign}
 use Rattle.answers.specs.declared.Sign.the-variants.{Plus, Minus}
-use Rattle.answers.specs.Says.{Says, refusesWith, refuses, gives, refusedIf, andThen, Term}
+use Rattle.answers.specs.Says.{Says, refusesWith, refuses, gives, refusedIf, andThen, SignedTerm}
 use Rattle.answers.specs.Signs.{times}
 use Rattle.answers.specs.Terms.{indexOf, wordOf}
 use Rattle.answers.proofs.Says.{gives-no-refusal, passed}
@@ -44,7 +44,7 @@ use Rattle.merging.proofs.Repeats.{repeats-append, strict-has-no-repeats}
 use Rattle.algebra.specs.Rules.{sameFamily, signIn, joinSays, mergeSays}
 use Rattle.algebra.proofs.Over.{merged-below}
 use Rattle.algebra.proofs.Promises.{no-sign}
-use Rattle.merge_laws.specs.Bracketings.{multiplied, leftFirst, rightFirst, exchangeSign, Bracketing, leaf, join, leaves, mergeTerms, productOf, indexAlone, AllOf, row, largest, Apart, MayMerge, numberIn, stops, rowSays, Reordered}
+use Rattle.merge_laws.specs.Bracketings.{multiplied, leftFirst, rightFirst, exchangeSign, Bracketing, leaf, join, leaves, mergeTerms, productOf, indexAlone, AllOf, rowWord, largest, Apart, MayMerge, numberIn, stops, rowSays, Reordered}
 use Rattle.merge_laws.proofs.Rows.{merged-sorted, whole, rows-merge, rows-exchange, rows-reordered}
 
 -- ---- rows of indices
@@ -59,9 +59,9 @@ max-associates a b c =
 max-second : (a b c : ℕ) → max a (max b c) ≡ max b (max a c)
 max-second a b c = sym (max-associates a b c) ∙ ap (λ (m : ℕ). max m c) (max-comm a b) ∙ max-associates b a c
 
-row-append : (xs ys : List Index) → row (xs ++ ys) ≡ row xs ++ row ys
+row-append : (xs ys : List Index) → rowWord (xs ++ ys) ≡ rowWord xs ++ rowWord ys
 row-append [] ys = refl
-row-append (x ∷ xs) ys = ap (λ (w : List ℕ). wordOf x ++ w) (row-append xs ys) ∙ sym (append-assoc (wordOf x) (row xs) (row ys))
+row-append (x ∷ xs) ys = ap (λ (w : List ℕ). wordOf x ++ w) (row-append xs ys) ∙ sym (append-assoc (wordOf x) (rowWord xs) (rowWord ys))
 
 largest-append : (xs ys : List Index) → largest (xs ++ ys) ≡ max (largest xs) (largest ys)
 largest-append [] ys = sym (zero-max (largest ys))
@@ -86,14 +86,14 @@ largest-narrow : (F : Family) (xs : List Index) → AllOf F xs → largest xs �
 largest-narrow F [] a = omega arith
 largest-narrow F (x ∷ xs) a = max-le (narrow-alphabet x (accepted-passes x (a .0) .0)) (largest-narrow F xs (a .2))
 
-row-below : (F : Family) (xs : List Index) → AllOf F xs → Below (largest xs) (sorted (row xs))
+row-below : (F : Family) (xs : List Index) → AllOf F xs → Below (largest xs) (sorted (rowWord xs))
 unfolding sorted
 row-below F [] a = tt
 row-below F (x ∷ xs) a =
-    subst (Below (largest (x ∷ xs))) (merged-sorted (wordOf x) (row xs))
-    (merged-below (largest (x ∷ xs)) (sorted (wordOf x)) (sorted (row xs))
+    subst (Below (largest (x ∷ xs))) (merged-sorted (wordOf x) (rowWord xs))
+    (merged-below (largest (x ∷ xs)) (sorted (wordOf x)) (sorted (rowWord xs))
     (subst (Below (largest (x ∷ xs))) (sym (word-sorted x)) (below-more (x .alphabet) (largest (x ∷ xs)) (wordOf x) (le-max-left (x .alphabet) (largest xs)) (a .0 .over)))
-    (below-more (largest xs) (largest (x ∷ xs)) (sorted (row xs)) (le-max-right (x .alphabet) (largest xs)) (row-below F xs (a .2))))
+    (below-more (largest xs) (largest (x ∷ xs)) (sorted (rowWord xs)) (le-max-right (x .alphabet) (largest xs)) (row-below F xs (a .2))))
 
 -- ---- a bracketing answers what its row does
 
@@ -116,24 +116,24 @@ one-is-its-row F x a f =
     sym (ap (λ (t : Bool). refusedIf t (numberIn F) (gives (whole F (x .alphabet) (wordOf x)))) (one-passes F x a f)
     ∙ ap₂ (λ (s : Sign) (y : Index). gives (record { sign = s; index = y })) sign index)
 
-pub product-is-the-row : (F : Family) (t : Bracketing) → AllOf F (leaves t) → productOf t ≡ rowSays F (largest (leaves t)) (row (leaves t))
+pub product-is-the-row : (F : Family) (t : Bracketing) → AllOf F (leaves t) → productOf t ≡ rowSays F (largest (leaves t)) (rowWord (leaves t))
 product-is-the-row F (leaf x) a =
     one-is-its-row F x (a .0) (a .1) ∙ ap₂ (λ (n : ℕ) (w : List ℕ). rowSays F n w) (sym (max-zero (x .alphabet))) (sym (append-nil (wordOf x)))
 product-is-the-row F (join s t) a =
     let left : AllOf F (leaves s) = all-left F (leaves s) (leaves t) a in
     let right : AllOf F (leaves t) = all-right F (leaves s) (leaves t) a in
-    ap₂ (λ (p q : Says Term). andThen p (λ b. andThen q (λ c. mergeTerms b c))) (product-is-the-row F s left) (product-is-the-row F t right)
-    ∙ rows-merge F (largest (leaves s)) (largest (leaves t)) (row (leaves s)) (row (leaves t)) (largest-narrow F (leaves s) left) (largest-narrow F (leaves t) right)
+    ap₂ (λ (p q : Says SignedTerm). andThen p (λ b. andThen q (λ c. mergeTerms b c))) (product-is-the-row F s left) (product-is-the-row F t right)
+    ∙ rows-merge F (largest (leaves s)) (largest (leaves t)) (rowWord (leaves s)) (rowWord (leaves t)) (largest-narrow F (leaves s) left) (largest-narrow F (leaves t) right)
     (row-below F (leaves s) left) (row-below F (leaves t) right)
     ∙ ap₂ (λ (n : ℕ) (w : List ℕ). rowSays F n w) (sym (largest-append (leaves s) (leaves t))) (sym (row-append (leaves s) (leaves t)))
 
 pub bracketings-agree : (F : Family) (s t : Bracketing) → AllOf F (leaves s) → leaves t ≡ leaves s → productOf s ≡ productOf t
 bracketings-agree F s t a e =
-    product-is-the-row F s a ∙ sym (product-is-the-row F t (subst (AllOf F) (sym e) a) ∙ ap (λ (xs : List Index). rowSays F (largest xs) (row xs)) e)
+    product-is-the-row F s a ∙ sym (product-is-the-row F t (subst (AllOf F) (sym e) a) ∙ ap (λ (xs : List Index). rowSays F (largest xs) (rowWord xs)) e)
 
 -- ---- two and three indices, as products
 
-plus-changes-nothing : (a : Says Term) → multiplied Plus a ≡ a
+plus-changes-nothing : (a : Says SignedTerm) → multiplied Plus a ≡ a
 plus-changes-nothing (refusesWith d c) = refl
 plus-changes-nothing (gives t) = refl
 
@@ -143,16 +143,16 @@ two x y = plus-changes-nothing (mergeSays x y)
 left-first : (x y z : Index) → productOf (join (join (leaf x) (leaf y)) (leaf z)) ≡ leftFirst x y z
 left-first x y z = go (mergeSays x y)
   where
-    plus-last : (s : Sign) (a : Says Term) → multiplied (times (times Plus s) Plus) a ≡ multiplied s a
+    plus-last : (s : Sign) (a : Says SignedTerm) → multiplied (times (times Plus s) Plus) a ≡ multiplied s a
     plus-last Plus a = refl
     plus-last Minus a = refl
 
-    go : (a : Says Term) → andThen (multiplied Plus a) (λ b. mergeTerms b (record { sign = Plus; index = z })) ≡ andThen a (λ t. multiplied (t .sign) (mergeSays (t .index) z))
+    go : (a : Says SignedTerm) → andThen (multiplied Plus a) (λ b. mergeTerms b (record { sign = Plus; index = z })) ≡ andThen a (λ t. multiplied (t .sign) (mergeSays (t .index) z))
     go (refusesWith d c) = refl
     go (gives t) = plus-last (t .sign) (mergeSays (t .index) z)
 
 right-first : (x y z : Index) → productOf (join (leaf x) (join (leaf y) (leaf z))) ≡ rightFirst x y z
-right-first x y z = ap (λ (a : Says Term). andThen a (λ b. multiplied (b .sign) (mergeSays x (b .index)))) (two y z)
+right-first x y z = ap (λ (a : Says SignedTerm). andThen a (λ b. multiplied (b .sign) (mergeSays x (b .index)))) (two y z)
 
 pub merge-associates : (x y z : Index) → Accepted x → Accepted y → Accepted z → y .family ≡ x .family → z .family ≡ x .family
     → leftFirst x y z ≡ rightFirst x y z
@@ -163,72 +163,72 @@ merge-associates x y z a b c f g =
 
 -- ---- when there is a product
 
-repeats-apart : (xs : List Index) → AllOf Forbidden xs → (repeats (row xs) ≡ 0) ↔ Apart xs
+repeats-apart : (xs : List Index) → AllOf Forbidden xs → (repeats (rowWord xs) ≡ 0) ↔ Apart xs
 unfolding repeats
 repeats-apart xs a = (to xs a, from xs a)
   where
     strict : (x : Index) → x .family ≡ Forbidden → repeats (wordOf x) ≡ 0
     strict x f = strict-has-no-repeats (wordOf x) (subst (λ (G : Family). Monotone G (wordOf x)) f (word-monotone x))
 
-    to : (xs : List Index) → AllOf Forbidden xs → repeats (row xs) ≡ 0 → Apart xs
+    to : (xs : List Index) → AllOf Forbidden xs → repeats (rowWord xs) ≡ 0 → Apart xs
     to [] a e = tt
     to (x ∷ xs) a e = (
-      apart-is-no-equal-pairs (wordOf x) (row xs) .0 (omega (arith, e, repeats-append (wordOf x) (row xs))),
-      to xs (a .2) (omega (arith, e, repeats-append (wordOf x) (row xs))),
+      apart-is-no-equal-pairs (wordOf x) (rowWord xs) .0 (omega (arith, e, repeats-append (wordOf x) (rowWord xs))),
+      to xs (a .2) (omega (arith, e, repeats-append (wordOf x) (rowWord xs))),
     )
 
-    from : (xs : List Index) → AllOf Forbidden xs → Apart xs → repeats (row xs) ≡ 0
+    from : (xs : List Index) → AllOf Forbidden xs → Apart xs → repeats (rowWord xs) ≡ 0
     from [] a p = refl
     from (x ∷ xs) a p =
-        omega (arith, repeats-append (wordOf x) (row xs), strict x (a .1), apart-is-no-equal-pairs (wordOf x) (row xs) .1 (p .0), from xs (a .2) (p .1))
+        omega (arith, repeats-append (wordOf x) (rowWord xs), strict x (a .1), apart-is-no-equal-pairs (wordOf x) (rowWord xs) .1 (p .0), from xs (a .2) (p .1))
 
-passes-exactly : (F : Family) (xs : List Index) → AllOf F xs → (stops F (largest xs) (row xs) ≡ false) ↔ MayMerge F xs
+passes-exactly : (F : Family) (xs : List Index) → AllOf F xs → (stops F (largest xs) (rowWord xs) ≡ false) ↔ MayMerge F xs
 passes-exactly Forbidden xs a = (
-  λ e. repeats-apart xs a .0 (omega (arith, ltb-false 0 (repeats (row xs)) e)),
-  λ m. le-ltb 0 (repeats (row xs)) (omega (arith, repeats-apart xs a .1 m)),
+  λ e. repeats-apart xs a .0 (omega (arith, ltb-false 0 (repeats (rowWord xs)) e)),
+  λ m. le-ltb 0 (repeats (rowWord xs)) (omega (arith, repeats-apart xs a .1 m)),
 )
 passes-exactly Allowed xs a = (
-  λ e. ltb-false 65 (largest xs + length (row xs)) e,
-  λ m. le-ltb 65 (largest xs + length (row xs)) m,
+  λ e. ltb-false 65 (largest xs + length (rowWord xs)) e,
+  λ m. le-ltb 65 (largest xs + length (rowWord xs)) m,
 )
 
-pub product-answers-exactly : (F : Family) (t : Bracketing) → AllOf F (leaves t) → ((a : Term) × (productOf t ≡ gives a)) ↔ MayMerge F (leaves t)
+pub product-answers-exactly : (F : Family) (t : Bracketing) → AllOf F (leaves t) → ((a : SignedTerm) × (productOf t ≡ gives a)) ↔ MayMerge F (leaves t)
 product-answers-exactly F t a = (
   λ p. passes-exactly F (leaves t) a .0 (passed stop (numberIn F) (gives term) (p .0) (sym (product-is-the-row F t a) ∙ p .1) .0),
   λ m. (term, product-is-the-row F t a ∙ ap (λ (b : Bool). refusedIf b (numberIn F) (gives term)) (passes-exactly F (leaves t) a .1 m)),
 )
   where
     stop : Bool
-    stop = stops F (largest (leaves t)) (row (leaves t))
+    stop = stops F (largest (leaves t)) (rowWord (leaves t))
 
-    term : Term
-    term = whole F (largest (leaves t)) (row (leaves t))
+    term : SignedTerm
+    term = whole F (largest (leaves t)) (rowWord (leaves t))
 
 pub product-refuses-exactly : (F : Family) (t : Bracketing) → AllOf F (leaves t) → (productOf t ≡ refuses (numberIn F)) ↔ (MayMerge F (leaves t) → ⊥)
 product-refuses-exactly F t a = (
   λ e m. let g = product-answers-exactly F t a .1 m in gives-no-refusal (g .0) (numberIn F) (sym (g .1) ∙ e),
-  λ n. product-is-the-row F t a ∙ go (stops F (largest (leaves t)) (row (leaves t))) refl n,
+  λ n. product-is-the-row F t a ∙ go (stops F (largest (leaves t)) (rowWord (leaves t))) refl n,
 )
   where
-    go : (b : Bool) → stops F (largest (leaves t)) (row (leaves t)) ≡ b → (MayMerge F (leaves t) → ⊥)
-        → refusedIf b (numberIn F) (gives (whole F (largest (leaves t)) (row (leaves t)))) ≡ refuses (numberIn F)
+    go : (b : Bool) → stops F (largest (leaves t)) (rowWord (leaves t)) ≡ b → (MayMerge F (leaves t) → ⊥)
+        → refusedIf b (numberIn F) (gives (whole F (largest (leaves t)) (rowWord (leaves t)))) ≡ refuses (numberIn F)
     go true e n = refl
     go false e n = absurd (n (passes-exactly F (leaves t) a .0 e))
 
 -- what is said of a product is said of an answer that equals it
-abbrev Answered : Says Term → Type 0
-Answered s = (a : Term) × (s ≡ gives a)
+abbrev Answered : Says SignedTerm → Type 0
+Answered s = (a : SignedTerm) × (s ≡ gives a)
 
-pub merge-answers : (x y : Index) → Accepted x → Accepted y → y .family ≡ x .family → ((a : Term) × (mergeSays x y ≡ gives a)) ↔ MayMerge (x .family) (x ∷ y ∷ [])
+pub merge-answers : (x y : Index) → Accepted x → Accepted y → y .family ≡ x .family → ((a : SignedTerm) × (mergeSays x y ≡ gives a)) ↔ MayMerge (x .family) (x ∷ y ∷ [])
 merge-answers x y a b f =
-    subst (λ (s : Says Term). Answered s ↔ MayMerge (x .family) (x ∷ y ∷ [])) (two x y) (product-answers-exactly (x .family) (join (leaf x) (leaf y)) (a, refl, (b, f, tt)))
+    subst (λ (s : Says SignedTerm). Answered s ↔ MayMerge (x .family) (x ∷ y ∷ [])) (two x y) (product-answers-exactly (x .family) (join (leaf x) (leaf y)) (a, refl, (b, f, tt)))
 
 pub merges-answer : (x y z : Index) → Accepted x → Accepted y → Accepted z → y .family ≡ x .family → z .family ≡ x .family
-    → (((a : Term) × (leftFirst x y z ≡ gives a)) ↔ MayMerge (x .family) (x ∷ y ∷ z ∷ [])) × (((a : Term) × (rightFirst x y z ≡ gives a)) ↔ MayMerge (x .family) (x ∷ y ∷ z ∷ []))
+    → (((a : SignedTerm) × (leftFirst x y z ≡ gives a)) ↔ MayMerge (x .family) (x ∷ y ∷ z ∷ [])) × (((a : SignedTerm) × (rightFirst x y z ≡ gives a)) ↔ MayMerge (x .family) (x ∷ y ∷ z ∷ []))
 merges-answer x y z a b c f g = (
-  subst (λ (s : Says Term). Answered s ↔ MayMerge (x .family) (x ∷ y ∷ z ∷ [])) (left-first x y z)
+  subst (λ (s : Says SignedTerm). Answered s ↔ MayMerge (x .family) (x ∷ y ∷ z ∷ [])) (left-first x y z)
       (product-answers-exactly (x .family) (join (join (leaf x) (leaf y)) (leaf z)) (a, refl, (b, f, (c, g, tt)))),
-  subst (λ (s : Says Term). Answered s ↔ MayMerge (x .family) (x ∷ y ∷ z ∷ [])) (right-first x y z)
+  subst (λ (s : Says SignedTerm). Answered s ↔ MayMerge (x .family) (x ∷ y ∷ z ∷ [])) (right-first x y z)
       (product-answers-exactly (x .family) (join (leaf x) (join (leaf y) (leaf z))) (a, refl, (b, f, (c, g, tt)))),
 )
 
@@ -236,14 +236,14 @@ merges-answer x y z a b c f g = (
 
 pub factors-exchange : (F : Family) (before xs ys after : List Index) (s t : Bracketing) → AllOf F (leaves s)
     → leaves s ≡ before ++ xs ++ ys ++ after → leaves t ≡ before ++ ys ++ xs ++ after
-    → productOf t ≡ multiplied (exchangeSign F (length (row xs)) (length (row ys))) (productOf s)
+    → productOf t ≡ multiplied (exchangeSign F (length (rowWord xs)) (length (rowWord ys))) (productOf s)
 factors-exchange F before xs ys after s t a e f =
     product-is-the-row F t (subst (AllOf F) (sym f) turned)
-    ∙ ap (λ (zs : List Index). rowSays F (largest zs) (row zs)) f
+    ∙ ap (λ (zs : List Index). rowSays F (largest zs) (rowWord zs)) f
     ∙ ap₂ (λ (n : ℕ) (w : List ℕ). rowSays F n w) (same-largest ys xs) (rows ys xs)
-    ∙ rows-exchange F (max (max (largest before) (max (largest xs) (largest ys))) (largest after)) (row before) (row xs) (row ys) (row after)
-    ∙ ap (multiplied (exchangeSign F (length (row xs)) (length (row ys))))
-    (sym (product-is-the-row F s a ∙ ap (λ (zs : List Index). rowSays F (largest zs) (row zs)) e ∙ ap₂ (λ (n : ℕ) (w : List ℕ). rowSays F n w) (largest-of xs ys) (rows xs ys)))
+    ∙ rows-exchange F (max (max (largest before) (max (largest xs) (largest ys))) (largest after)) (rowWord before) (rowWord xs) (rowWord ys) (rowWord after)
+    ∙ ap (multiplied (exchangeSign F (length (rowWord xs)) (length (rowWord ys))))
+    (sym (product-is-the-row F s a ∙ ap (λ (zs : List Index). rowSays F (largest zs) (rowWord zs)) e ∙ ap₂ (λ (n : ℕ) (w : List ℕ). rowSays F n w) (largest-of xs ys) (rows xs ys)))
   where
     given : AllOf F (before ++ xs ++ ys ++ after)
     given = subst (AllOf F) e a
@@ -256,10 +256,10 @@ factors-exchange F before xs ys after s t a e f =
         (all-both F (before ++ ys) xs (all-both F before ys (all-left F before xs first) (all-right F (before ++ xs) ys three)) (all-right F before xs first))
         (all-right F (before ++ xs ++ ys) after given)
 
-    rows : (xs ys : List Index) → row (before ++ xs ++ ys ++ after) ≡ row before ++ row xs ++ row ys ++ row after
+    rows : (xs ys : List Index) → rowWord (before ++ xs ++ ys ++ after) ≡ rowWord before ++ rowWord xs ++ rowWord ys ++ rowWord after
     rows xs ys =
         row-append (before ++ xs ++ ys) after
-        ∙ ap (λ (w : List ℕ). w ++ row after) (row-append (before ++ xs) ys ∙ ap (λ (w : List ℕ). w ++ row ys) (row-append before xs))
+        ∙ ap (λ (w : List ℕ). w ++ rowWord after) (row-append (before ++ xs) ys ∙ ap (λ (w : List ℕ). w ++ rowWord ys) (row-append before xs))
 
     largest-of : (xs ys : List Index) → largest (before ++ xs ++ ys ++ after) ≡ max (max (largest before) (max (largest xs) (largest ys))) (largest after)
     largest-of xs ys =
@@ -280,7 +280,7 @@ accepted-exchange x y a b f =
     ∙ ap (multiplied (exchangeSign (x .family) (length (wordOf x)) (length (wordOf y)))) (two x y)
 
 -- the checks of two records, in either order
-checks-exchange : (m : Sign) (t t′ o o′ : Bool) (s s′ : Says Term) → (t ≡ false → t′ ≡ false → o ≡ false → o′ ≡ false → s′ ≡ multiplied m s)
+checks-exchange : (m : Sign) (t t′ o o′ : Bool) (s s′ : Says SignedTerm) → (t ≡ false → t′ ≡ false → o ≡ false → o′ ≡ false → s′ ≡ multiplied m s)
     → refusedIf t′ 1 (refusedIf t 1 (refusedIf o′ 7 (refusedIf o 7 s′))) ≡ multiplied m (refusedIf t 1 (refusedIf t′ 1 (refusedIf o 7 (refusedIf o′ 7 s))))
 checks-exchange m true true o o′ s s′ f = refl
 checks-exchange m true false o o′ s s′ f = refl
@@ -324,26 +324,26 @@ largest-reordered (x ∷ xs) ys (before, after, e, r) =
     ap (max (x .alphabet)) (largest-reordered xs (before ++ after) r ∙ largest-append before after)
     ∙ max-second (x .alphabet) (largest before) (largest after) ∙ sym (ap largest e ∙ largest-append before (x ∷ after))
 
-row-reordered : (xs ys : List Index) → Reordered xs ys → Rearranged (row xs) (row ys)
-row-reordered [] ys r s = ap (λ (zs : List Index). multiplicity s (row zs)) (sym r)
+row-reordered : (xs ys : List Index) → Reordered xs ys → Rearranged (rowWord xs) (rowWord ys)
+row-reordered [] ys r s = ap (λ (zs : List Index). multiplicity s (rowWord zs)) (sym r)
 row-reordered (x ∷ xs) ys (before, after, e, r) s =
     omega (
       arith,
-      multiplicity-append s (wordOf x) (row xs),
+      multiplicity-append s (wordOf x) (rowWord xs),
       row-reordered xs (before ++ after) r s,
       ap (multiplicity s) (row-append before after),
-      multiplicity-append s (row before) (row after),
-      ap (λ (zs : List Index). multiplicity s (row zs)) e,
+      multiplicity-append s (rowWord before) (rowWord after),
+      ap (λ (zs : List Index). multiplicity s (rowWord zs)) e,
       ap (multiplicity s) (row-append before (x ∷ after)),
-      multiplicity-append s (row before) (wordOf x ++ row after),
-      multiplicity-append s (wordOf x) (row after),
+      multiplicity-append s (rowWord before) (wordOf x ++ rowWord after),
+      multiplicity-append s (wordOf x) (rowWord after),
     )
 
 pub any-order : (F : Family) (s t : Bracketing) → AllOf F (leaves s) → Reordered (leaves s) (leaves t) → indexAlone (productOf s) ≡ indexAlone (productOf t)
 any-order F s t a r =
     ap indexAlone (product-is-the-row F s a)
-    ∙ rows-reordered F (largest (leaves s)) (row (leaves s)) (row (leaves t)) (row-reordered (leaves s) (leaves t) r)
-    ∙ ap (λ (n : ℕ). indexAlone (rowSays F n (row (leaves t)))) (largest-reordered (leaves s) (leaves t) r)
+    ∙ rows-reordered F (largest (leaves s)) (rowWord (leaves s)) (rowWord (leaves t)) (row-reordered (leaves s) (leaves t) r)
+    ∙ ap (λ (n : ℕ). indexAlone (rowSays F n (rowWord (leaves t)))) (largest-reordered (leaves s) (leaves t) r)
     ∙ sym (ap indexAlone (product-is-the-row F t (all-reordered F (leaves s) (leaves t) a r)))
 
 -- ---- the outer two of three are no neighbours

@@ -22,7 +22,7 @@ use Rattle.words.specs.Word.{Monotone, Below, shiftedAlphabet}
 use Rattle.words.specs.Inversions.{multiplicity, crossings, equalPairs, inversions}
 use Rattle.words.proofs.Inversions.{inversions-append, crossings-append-left, crossings-both-ways, multiplicity-append}
 use Rattle.answers.specs.declared.Sign.{Sign}
-use Rattle.answers.specs.Says.{gives, refusedIf, andThen, Term}
+use Rattle.answers.specs.Says.{gives, refusedIf, andThen, SignedTerm}
 use Rattle.answers.specs.Signs.{signOf, times}
 use Rattle.answers.specs.Terms.{indexOf}
 use Rattle.answers.proofs.Signs.{sign-of-parity, times-of-sum}
@@ -33,7 +33,7 @@ use Rattle.merging.specs.Sorting.{Rearranged, sorted, merged, repeats}
 use Rattle.merging.proofs.Sorting.{sorted-increases, sorted-rearranges, sorted-is-the-one, sorted-same, length-rearranged, crossings-rearranged, equal-pairs-rearranged}
 use Rattle.merging.proofs.Repeats.{repeats-append, strict-has-no-repeats}
 use Rattle.merging.proofs.Merging.{merged-many, merged-increases}
-use Rattle.algebra.specs.Rules.{signIn, mergedSays, mergeSays}
+use Rattle.algebra.specs.Rules.{signIn, mergedWordsSays, mergeSays}
 use Rattle.algebra.proofs.Over.{sorted-long}
 use Rattle.algebra.proofs.Gathering.{sorted-monotone}
 use Rattle.algebra.proofs.Promises.{by-words}
@@ -81,11 +81,11 @@ width n (suc k) h = go (decLt 64 (n + k))
     go (no l) = le-ltb 64 (n + k) (omega arith) ∙ sym (le-ltb 65 (n + suc k) (omega arith))
 
 -- the term of two words
-abbrev joint : Family → ℕ → List ℕ → List ℕ → Term
+abbrev joint : Family → ℕ → List ℕ → List ℕ → SignedTerm
 joint F n u v = record { sign = signIn F (crossings u v); index = indexOf F n (merged u v) }
 
 words-merge : (F : Family) (n : ℕ) (u v : List ℕ) → n ≤ 64 → Monotone F u → Monotone F v
-    → mergedSays F n u v ≡ refusedIf (stops F n (u ++ v)) (numberIn F) (gives (joint F n u v))
+    → mergedWordsSays F n u v ≡ refusedIf (stops F n (u ++ v)) (numberIn F) (gives (joint F n u v))
 words-merge Forbidden n u v h m l =
     let e : repeats (u ++ v) ≡ equalPairs u v = omega (arith, repeats-append u v, strict-has-no-repeats u m, strict-has-no-repeats v l) in
     ap (λ (t : Bool). refusedIf (ltb 0 (equalPairs u v)) 5 (refusedIf t 1 (gives (joint Forbidden n u v)))) (le-ltb 64 n h)
@@ -127,12 +127,12 @@ product-of-three : (F : Family) (i j k : ℕ) → times (times (signIn F i) (sig
 product-of-three Forbidden i j k = ap (λ (s : Sign). times s (signOf k)) (times-of-sum i j) ∙ times-of-sum (i + j) k
 product-of-three Allowed i j k = refl
 
-sign-within : (s : Sign) (t : Bool) (d : ℕ) (a : Term) → multiplied s (refusedIf t d (gives a)) ≡ refusedIf t d (gives (record { sign = times s (a .sign); index = a .index }))
+sign-within : (s : Sign) (t : Bool) (d : ℕ) (a : SignedTerm) → multiplied s (refusedIf t d (gives a)) ≡ refusedIf t d (gives (record { sign = times s (a .sign); index = a .index }))
 sign-within s true d a = refl
 sign-within s false d a = refl
 
 -- the term of a row
-abbrev pub whole : Family → ℕ → List ℕ → Term
+abbrev pub whole : Family → ℕ → List ℕ → SignedTerm
 whole F n w = record { sign = signIn F (inversions w); index = indexOf F n (sorted w) }
 
 both-pass : (F : Family) (m n : ℕ) (u v : List ℕ) → m ≤ 64 → n ≤ 64 → Below m (sorted u) → Below n (sorted v) → stops F m u ≡ false → stops F n v ≡ false
@@ -140,14 +140,14 @@ both-pass : (F : Family) (m n : ℕ) (u v : List ℕ) → m ≤ 64 → n ≤ 64 
 both-pass F m n u v h k b d e f =
     let merges : mergeSays (indexOf F m (sorted u)) (indexOf F n (sorted v)) ≡ refusedIf (stops F (max m n) (sorted u ++ sorted v)) (numberIn F) (gives (joint F (max m n) (sorted u) (sorted v))) =
     by-words (indexOf F m (sorted u)) (indexOf F n (sorted v)) (row-accepted F m u h b e) (row-accepted F n v k d f) refl
-    ∙ ap₂ (λ (p q : List ℕ). mergedSays F (max m n) p q) (word-of-index F m (sorted u) (row-monotone F m u e)) (word-of-index F n (sorted v) (row-monotone F n v f))
+    ∙ ap₂ (λ (p q : List ℕ). mergedWordsSays F (max m n) p q) (word-of-index F m (sorted u) (row-monotone F m u e)) (word-of-index F n (sorted v) (row-monotone F n v f))
     ∙ words-merge F (max m n) (sorted u) (sorted v) (max-le h k) (row-monotone F m u e) (row-monotone F n v f) in
     let signs : times (times (signIn F (inversions u)) (signIn F (inversions v))) (signIn F (crossings (sorted u) (sorted v))) ≡ signIn F (inversions (u ++ v)) =
     ap (λ (c : ℕ). times (times (signIn F (inversions u)) (signIn F (inversions v))) (signIn F c)) (crossings-sorted u v)
     ∙ product-of-three F (inversions u) (inversions v) (crossings u v) ∙ ap (signIn F) (sym (inversions-append u v)) in
     ap (multiplied (times (signIn F (inversions u)) (signIn F (inversions v)))) merges
     ∙ sign-within (times (signIn F (inversions u)) (signIn F (inversions v))) (stops F (max m n) (sorted u ++ sorted v)) (numberIn F) (joint F (max m n) (sorted u) (sorted v))
-    ∙ ap₂ (λ (t : Bool) (a : Term). refusedIf t (numberIn F) (gives a)) (stops-rearranged F (max m n) (sorted u ++ sorted v) (u ++ v) (both-sorted u v))
+    ∙ ap₂ (λ (t : Bool) (a : SignedTerm). refusedIf t (numberIn F) (gives a)) (stops-rearranged F (max m n) (sorted u ++ sorted v) (u ++ v) (both-sorted u v))
     (ap₂ (λ (s : Sign) (w : List ℕ). record { sign = s; index = indexOf F (max m n) w }) signs (merged-sorted u v))
 
 pub rows-merge : (F : Family) (m n : ℕ) (u v : List ℕ) → m ≤ 64 → n ≤ 64 → Below m (sorted u) → Below n (sorted v)
@@ -171,7 +171,7 @@ rows-reordered F n u v r =
     ∙ ap₂ (λ (t : Bool) (w : List ℕ). refusedIf t (numberIn F) (gives (indexOf F n w))) (stops-rearranged F n u v r) (sorted-same u v r)
     ∙ sym (index-within (stops F n v) (numberIn F) (whole F n v))
   where
-    index-within : (t : Bool) (d : ℕ) (a : Term) → indexAlone (refusedIf t d (gives a)) ≡ refusedIf t d (gives (a .index))
+    index-within : (t : Bool) (d : ℕ) (a : SignedTerm) → indexAlone (refusedIf t d (gives a)) ≡ refusedIf t d (gives (a .index))
     index-within true d a = refl
     index-within false d a = refl
 
@@ -245,7 +245,7 @@ rows-exchange F n p u v q =
     ∙ go (stops F n (p ++ u ++ v ++ q)) refl
     ∙ sym (sign-within (exchangeSign F (length u) (length v)) (stops F n (p ++ u ++ v ++ q)) (numberIn F) (whole F n (p ++ u ++ v ++ q)))
   where
-    turned : Term
+    turned : SignedTerm
     turned = record { sign = times (exchangeSign F (length u) (length v)) (signIn F (inversions (p ++ u ++ v ++ q))); index = indexOf F n (sorted (p ++ u ++ v ++ q)) }
 
     go : (t : Bool) → stops F n (p ++ u ++ v ++ q) ≡ t → refusedIf t (numberIn F) (gives (whole F n (p ++ v ++ u ++ q))) ≡ refusedIf t (numberIn F) (gives turned)

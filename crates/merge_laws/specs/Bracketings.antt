@@ -8,7 +8,7 @@
 --   productOf t    what its merges answer: the first refusal, or the index with the product of the signs of all its merges
 --   indexAlone a    an answer without its sign
 --   AllOf F xs    every index of the row is accepted, and of family F
---   row xs, largest xs    their words one after another, and the largest of their alphabets
+--   rowWord xs, largest xs    their words one after another, and the largest of their alphabets
 --   Apart xs    no symbol of one stands in a later one
 --   MayMerge F xs    when the row has a product: for Forbidden if it is Apart, for Allowed if the largest alphabet + all degrees - 1 is at most 64
 --   numberIn F    the number of the one refusal that a product in family F has
@@ -28,7 +28,7 @@ use Rattle.words.specs.Inversions.{inversions}
 use Rattle.answers.specs.declared.Index.{Index}
 use Rattle.answers.specs.declared.Sign.{Sign}
 use Rattle.answers.specs.declared.Sign.the-variants.{Plus}
-use Rattle.answers.specs.Says.{Says, gives, refusedIf, andThen, Term}
+use Rattle.answers.specs.Says.{Says, gives, refusedIf, andThen, SignedTerm}
 use Rattle.answers.specs.Signs.{times}
 use Rattle.answers.specs.Terms.{indexOf, wordOf}
 use Rattle.taking.specs.Taken.{Accepted}
@@ -37,13 +37,13 @@ use Rattle.algebra.specs.Rules.{signIn, mergeSays}
 
 -- ---- two and three
 
-abbrev pub multiplied : Sign → Says Term → Says Term
+abbrev pub multiplied : Sign → Says SignedTerm → Says SignedTerm
 multiplied s a = andThen a (λ t. gives (record { sign = times s (t .sign); index = t .index }))
 
-abbrev pub leftFirst : Index → Index → Index → Says Term
+abbrev pub leftFirst : Index → Index → Index → Says SignedTerm
 leftFirst x y z = andThen (mergeSays x y) (λ t. multiplied (t .sign) (mergeSays (t .index) z))
 
-abbrev pub rightFirst : Index → Index → Index → Says Term
+abbrev pub rightFirst : Index → Index → Index → Says SignedTerm
 rightFirst x y z = andThen (mergeSays y z) (λ t. multiplied (t .sign) (mergeSays x (t .index)))
 
 abbrev pub exchangeSign : Family → ℕ → ℕ → Sign
@@ -59,14 +59,14 @@ abbrev pub leaves : Bracketing → List Index
 leaves (leaf x) = x ∷ []
 leaves (join s t) = leaves s ++ leaves t
 
-abbrev pub mergeTerms : Term → Term → Says Term
+abbrev pub mergeTerms : SignedTerm → SignedTerm → Says SignedTerm
 mergeTerms a b = multiplied (times (a .sign) (b .sign)) (mergeSays (a .index) (b .index))
 
-abbrev pub productOf : Bracketing → Says Term
+abbrev pub productOf : Bracketing → Says SignedTerm
 productOf (leaf x) = gives (record { sign = Plus; index = x })
 productOf (join s t) = andThen (productOf s) (λ a. andThen (productOf t) (λ b. mergeTerms a b))
 
-abbrev pub indexAlone : Says Term → Says Index
+abbrev pub indexAlone : Says SignedTerm → Says Index
 indexAlone a = andThen a (λ t. gives (t .index))
 
 -- ---- rows
@@ -75,9 +75,9 @@ abbrev pub AllOf : Family → List Index → Type 0
 AllOf F [] = Unit {0}
 AllOf F (x ∷ xs) = Accepted x × (x .family ≡ F) × AllOf F xs
 
-abbrev pub row : List Index → List ℕ
-row [] = []
-row (x ∷ xs) = wordOf x ++ row xs
+abbrev pub rowWord : List Index → List ℕ
+rowWord [] = []
+rowWord (x ∷ xs) = wordOf x ++ rowWord xs
 
 abbrev pub largest : List Index → ℕ
 largest [] = 0
@@ -85,12 +85,12 @@ largest (x ∷ xs) = max (x .alphabet) (largest xs)
 
 abbrev pub Apart : List Index → Type 0
 Apart [] = Unit {0}
-Apart (x ∷ xs) = ((s : ℕ) → In s (wordOf x) → In s (row xs) → ⊥) × Apart xs
+Apart (x ∷ xs) = ((s : ℕ) → In s (wordOf x) → In s (rowWord xs) → ⊥) × Apart xs
 
 -- n + k - 1 is at most 64, with no subtraction
 abbrev pub MayMerge : Family → List Index → Type 0
 MayMerge Forbidden xs = Apart xs
-MayMerge Allowed xs = largest xs + length (row xs) ≤ 65
+MayMerge Allowed xs = largest xs + length (rowWord xs) ≤ 65
 
 abbrev pub numberIn : Family → ℕ
 numberIn Forbidden = 5
@@ -100,7 +100,7 @@ abbrev pub stops : Family → ℕ → List ℕ → Bool
 stops Forbidden n w = ltb 0 (repeats w)
 stops Allowed n w = ltb 65 (n + length w)
 
-abbrev pub rowSays : Family → ℕ → List ℕ → Says Term
+abbrev pub rowSays : Family → ℕ → List ℕ → Says SignedTerm
 rowSays F n w = refusedIf (stops F n w) (numberIn F) (gives (record { sign = signIn F (inversions w); index = indexOf F n (sorted w) }))
 
 abbrev pub Reordered : List Index → List Index → Type 0

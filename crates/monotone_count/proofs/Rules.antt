@@ -18,8 +18,8 @@ use Rattle.monotone_count.specs.Rules.{countSays}
 use Rattle.words.specs.Next.{first}
 use Rattle.words.proofs.Ends.{first-bits}
 use Rattle.words.proofs.Shifted.{shifted-first}
-use Rattle.bits.specs.Mask.{capped}
-use Rattle.bits.proofs.Mask.{capped-within}
+use Rattle.bits.specs.Mask.{clamped}
+use Rattle.bits.proofs.Mask.{clamped-within}
 
 pub record Counted (F : Family) (n k c : ℕ) : Type 0 where
   pub degree : k ≤ 64
@@ -51,5 +51,5 @@ count-refused F n k d e = go (stopped (ltb 64 k) 1 (refusedIf (ltb 64 (shiftedAl
     go (inl p) = (sym (p .1), inl (ltb-true 64 k (p .0)))
     go (inr p) = rest (stopped (ltb 64 (shiftedAlphabet F n k)) 1 (gives (count F n k)) d (p .1))
 
-pub start-bits : (F : Family) (k r : ℕ) → k ≤ 64 → suc r ≡ 2 ^ capped k → r ≡ bitsOf (shifted F (first F k))
-start-bits F k r h e = omega (arith, e ∙ ap (λ (j : ℕ). 2 ^ j) (capped-within k h), first-bits k, ap bitsOf (shifted-first F k))
+pub start-bits : (F : Family) (k r : ℕ) → k ≤ 64 → suc r ≡ 2 ^ clamped k → r ≡ bitsOf (shifted F (first F k))
+start-bits F k r h e = omega (arith, e ∙ ap (λ (j : ℕ). 2 ^ j) (clamped-within k h), first-bits k, ap bitsOf (shifted-first F k))

@@ -32,7 +32,7 @@ use Rattle.bits.specs.Member.{reaches}
 use Rattle.bits.proofs.Member.{reaches-not}
 use Rattle.taking.specs.declared.Verdict.{Verdict}
 use Rattle.taking.specs.declared.Verdict.the-variants as verdict
-use Rattle.taking.specs.Taken.{top, Accepted, verdictOf}
+use Rattle.taking.specs.Taken.{shiftedAlphabetOf, Accepted, verdictOf}
 use Rattle.taking.proofs.Accepted.{below-is-shifted, outside-is-reaches, taken-accepted, took, verdict-accepted}
 use Rattle.successor.specs.Later.{following as followingOf, later}
 use Rattle.monotone_walk.specs.Rules.{nextSays, successorSays}
@@ -71,8 +71,8 @@ moved x b = record { family = x .family; alphabet = x .alphabet; bits = b }
 
 pub record Following (x : Index) (b : ℕ) : Type 0 where
   pub last : b ≡ 0 → refuses 4 ≡ nextSays x
-  pub past : (b ≡ 0 → ⊥) → reaches (top x) (setBits b) ≡ true → refuses 4 ≡ nextSays x
-  pub more : (b ≡ 0 → ⊥) → reaches (top x) (setBits b) ≡ false → gives (moved x b) ≡ nextSays x
+  pub past : (b ≡ 0 → ⊥) → reaches (shiftedAlphabetOf x) (setBits b) ≡ true → refuses 4 ≡ nextSays x
+  pub more : (b ≡ 0 → ⊥) → reaches (shiftedAlphabetOf x) (setBits b) ≡ false → gives (moved x b) ≡ nextSays x
 
 -- a next set past 64 digits has a symbol past the alphabet
 past-alphabet : (x : Index) → Accepted x → 2 ^ 64 ≤ followingOf (x .bits) → reaches (x .alphabet) (next (x .family) (wordOf x)) ≡ true
@@ -107,7 +107,7 @@ following x b a e = go (eqb (length (wordOf x)) 0) refl (ltb (followingOf (x .bi
         let i : moved x b ≡ indexOf (x .family) (x .alphabet) (next (x .family) (wordOf x)) = ap (moved x) u in
         let w : wordOf (moved x b) ≡ next (x .family) (wordOf x) =
         ap wordOf i ∙ word-of-index (x .family) (x .alphabet) (next (x .family) (wordOf x)) (next-monotone (x .family) (wordOf x) (word-monotone x)) in
-        let o : reaches (top x) (setBits b) ≡ reaches (x .alphabet) (next (x .family) (wordOf x)) =
+        let o : reaches (shiftedAlphabetOf x) (setBits b) ≡ reaches (x .alphabet) (next (x .family) (wordOf x)) =
         outside-is-reaches (moved x b) (x .alphabet) (length (wordOf x)) (ap length w ∙ next-long (x .family) (wordOf x)) ∙ ap (reaches (x .alphabet)) w in
         record {
           last = λ n. absurd (omega (arith, n, is true q, some p));
@@ -130,23 +130,23 @@ before-following a h = go (decLe 1 (length (setBits a)))
     go (no l) = absurd (h (no-bits (next Forbidden (setBits a)) (next-long Forbidden (setBits a) ∙ omega arith)))
 
 -- where the next set stays below the shifted alphabet, so does the set itself
-pub next-accepted : (x : Index) (b : ℕ) → b ≡ later (x .bits) → (b ≡ 0 → ⊥) → top x ≤ 64 → reaches (top x) (setBits b) ≡ false → Accepted x
-next-accepted x b e h l r = record { narrow = l; over = below-is-shifted x (x .alphabet) (length (wordOf x)) refl .1 (below-of-bits (top x) (setBits (x .bits)) low) }
+pub next-accepted : (x : Index) (b : ℕ) → b ≡ later (x .bits) → (b ≡ 0 → ⊥) → shiftedAlphabetOf x ≤ 64 → reaches (shiftedAlphabetOf x) (setBits b) ≡ false → Accepted x
+next-accepted x b e h l r = record { narrow = l; over = below-is-shifted x (x .alphabet) (length (wordOf x)) refl .1 (below-of-bits (shiftedAlphabetOf x) (setBits (x .bits)) low) }
   where
     is : (t : Bool) → ltb (followingOf (x .bits)) (2 ^ 64) ≡ t → b ≡ followingOf (x .bits)
     is true q = e ∙ ap (λ (s : Bool). pick s (followingOf (x .bits)) 0) q
     is false q = absurd (h (e ∙ ap (λ (s : Bool). pick s (followingOf (x .bits)) 0) q))
 
-    low : bitsOf (setBits (x .bits)) < 2 ^ top x
+    low : bitsOf (setBits (x .bits)) < 2 ^ shiftedAlphabetOf x
     low =
         let f : b ≡ followingOf (x .bits) = is (ltb (followingOf (x .bits)) (2 ^ 64)) refl in
         let u : x .bits < followingOf (x .bits) = before-following (x .bits) (λ z. h (f ∙ z)) in
-        let v : bitsOf (setBits b) < 2 ^ top x = bits-fit (top x) (setBits b) (set-bits-monotone b) (reaches-not (top x) (setBits b) .0 r) in
+        let v : bitsOf (setBits b) < 2 ^ shiftedAlphabetOf x = bits-fit (shiftedAlphabetOf x) (setBits b) (set-bits-monotone b) (reaches-not (shiftedAlphabetOf x) (setBits b) .0 r) in
         omega (arith, u, v, f, bits-of-set b, bits-of-set (x .bits))
 
-pub next-at-once : (x : Index) (b t : ℕ) → b ≡ later (x .bits) → (b ≡ 0 → ⊥) → t ≡ top x → t ≤ 64 → reaches t (setBits b) ≡ false → gives (moved x b) ≡ successorSays x
+pub next-at-once : (x : Index) (b t : ℕ) → b ≡ later (x .bits) → (b ≡ 0 → ⊥) → t ≡ shiftedAlphabetOf x → t ≤ 64 → reaches t (setBits b) ≡ false → gives (moved x b) ≡ successorSays x
 next-at-once x b t e h f l r =
-    let u : reaches (top x) (setBits b) ≡ false = ap (λ (a : ℕ). reaches a (setBits b)) (sym f) ∙ r in
+    let u : reaches (shiftedAlphabetOf x) (setBits b) ≡ false = ap (λ (a : ℕ). reaches a (setBits b)) (sym f) ∙ r in
     let a : Accepted x = next-accepted x b e h (omega (arith, l, f)) u in
     following x b a e .more h u ∙ sym (taken-accepted x (nextSays x) a)
 

@@ -23,7 +23,7 @@ use Rattle.answers.specs.declared.Indexed.{Indexed}
 use Rattle.answers.specs.declared.Indexed.the-variants as indexed
 use Rattle.answers.specs.declared.Signed.{Signed}
 use Rattle.answers.specs.declared.Signed.the-variants as signed
-use Rattle.answers.specs.Says.{Says, refusesWith, gives, numberOf, carriedBy, placeOf, answerSays, indexedSays, signedSays, Term}
+use Rattle.answers.specs.Says.{Says, refusesWith, gives, numberOf, carriedBy, placeOf, answerSays, indexedSays, signedSays, SignedTerm}
 use Rattle.answers.proofs.Says.{gives-same, gives-never}
 use Rattle.monotone_walk.specs.declared.Started.{Started}
 use Rattle.monotone_walk.specs.declared.Started.the-variants as started
@@ -37,14 +37,14 @@ use Rattle.digits.specs.declared.Worded.{Worded}
 use Rattle.digits.specs.declared.Worded.the-variants as worded
 use Rattle.digits.specs.declared.Deleted.{Deleted as DigitDeleted}
 use Rattle.digits.specs.declared.Deleted.the-variants as digitDeleted
-use Rattle.digits.specs.Rules.{Taken, wordedSays, deletedSays as digitDeletedSays}
+use Rattle.digits.specs.Rules.{TakenOut, wordedSays, digitDeletedSays}
 use Rattle.permutation.specs.declared.Permutation.{Permutation}
-use Rattle.permutation.specs.declared.Signs.{Signs}
-use Rattle.permutation.specs.declared.Signs.the-variants as signs
+use Rattle.permutation.specs.declared.Signature.{Signature}
+use Rattle.permutation.specs.declared.Signature.the-variants as signs
 use Rattle.permutation.specs.declared.Verdict.{Verdict}
 use Rattle.permutation.specs.declared.Verdict.the-variants as verdict
 use Rattle.permutation.specs.declared.Arranged.{Arranged}
-use Rattle.permutation.specs.Record.{verdictSays, signsSays, Arranges}
+use Rattle.permutation.specs.Record.{verdictSays, signatureSays, Arranges}
 
 -- ---- refusals
 
@@ -93,7 +93,7 @@ one-index (indexed.Refused c) (indexed.At y) e = never y c (sym e)
 one-index (indexed.Refused c) (indexed.Refused d) e = ap indexed.Refused (refused c d e)
 
 pub one-signed : (a b : Signed) → signedSays a ≡ signedSays b → a ≡ b
-one-signed (signed.At s x) (signed.At t y) e = ap (λ (u : Term). signed.At (u .sign) (u .index)) (gives-same _ _ e)
+one-signed (signed.At s x) (signed.At t y) e = ap (λ (u : SignedTerm). signed.At (u .sign) (u .index)) (gives-same _ _ e)
 one-signed (signed.At s x) (signed.Refused d) e = never _ d e
 one-signed (signed.Refused c) (signed.At t y) e = never _ c (sym e)
 one-signed (signed.Refused c) (signed.Refused d) e = ap signed.Refused (refused c d e)
@@ -125,14 +125,14 @@ one-digit-word (worded.Refused c) (worded.Is y) e = never y c (sym e)
 one-digit-word (worded.Refused c) (worded.Refused d) e = ap worded.Refused (refused c d e)
 
 pub one-digit-deletion : (a b : DigitDeleted) → digitDeletedSays a ≡ digitDeletedSays b → a ≡ b
-one-digit-deletion (digitDeleted.At s x) (digitDeleted.At t y) e = ap (λ (u : Taken). digitDeleted.At (u .symbol) (u .left)) (gives-same _ _ e)
+one-digit-deletion (digitDeleted.At s x) (digitDeleted.At t y) e = ap (λ (u : TakenOut). digitDeleted.At (u .symbol) (u .left)) (gives-same _ _ e)
 one-digit-deletion (digitDeleted.At s x) (digitDeleted.Refused d) e = never _ d e
 one-digit-deletion (digitDeleted.Refused c) (digitDeleted.At t y) e = never _ c (sym e)
 one-digit-deletion (digitDeleted.Refused c) (digitDeleted.Refused d) e = ap digitDeleted.Refused (refused c d e)
 
 -- ---- those on permutations
 
-pub one-sign : (a b : Signs) → signsSays a ≡ signsSays b → a ≡ b
+pub one-sign : (a b : Signature) → signatureSays a ≡ signatureSays b → a ≡ b
 one-sign (signs.Is s) (signs.Is t) e = ap signs.Is (gives-same s t e)
 one-sign (signs.Is s) (signs.Refused d) e = never s d e
 one-sign (signs.Refused c) (signs.Is t) e = never t c (sym e)

@@ -13,10 +13,10 @@ use Rattle.answers.specs.declared.Refusal.{Refusal}
 use Rattle.answers.specs.Says.{Says, refusesWith, gives, numberOf, carriedBy}
 use Rattle.permutation.specs.declared.Permutation.{Permutation}
 use Rattle.permutation.specs.declared.Arranged.{Arranged}
-use Rattle.permutation.specs.Record.{capacity, zeros, wordOf, recordOf, Whole, Holds, valueOf, refusal, giving, Arranges}
+use Rattle.permutation.specs.Record.{capacity, emptyEntries, arrangementOf, recordOf, Whole, GoodRecord, recordBeside, refusal, giving, Arranges}
 
-pub word-of-record : (w : List ℕ) → wordOf (recordOf w) ≡ w
-word-of-record w = take-append-seam w (drop (length w) zeros)
+pub word-of-record : (w : List ℕ) → arrangementOf (recordOf w) ≡ w
+word-of-record w = take-append-seam w (drop (length w) emptyEntries)
 
 zero-there : (m k : ℕ) → _≡_ {A = ℕ} (getD (replicate m 0) k 0) 0
 zero-there zero k = refl
@@ -24,13 +24,13 @@ zero-there (suc m) zero = refl
 zero-there (suc m) (suc k) = zero-there m k
 
 -- past the list its record holds zeros
-zero-past : (w : List ℕ) (i : ℕ) → length w ≤ i → getD (w ++ drop (length w) zeros) i 0 ≡ 0
+zero-past : (w : List ℕ) (i : ℕ) → length w ≤ i → getD (w ++ drop (length w) emptyEntries) i 0 ≡ 0
 zero-past w i h =
     let back : length w + (i - length w) ≡ i = omega arith in
-    subst (λ (k : ℕ). getD (w ++ drop (length w) zeros) k 0 ≡ 0) back
-    (getD-append-add w (drop (length w) zeros) (i - length w) 0 ∙ getD-drop (length w) zeros (i - length w) 0 ∙ zero-there capacity (length w + (i - length w)))
+    subst (λ (k : ℕ). getD (w ++ drop (length w) emptyEntries) k 0 ≡ 0) back
+    (getD-append-add w (drop (length w) emptyEntries) (i - length w) 0 ∙ getD-drop (length w) emptyEntries (i - length w) 0 ∙ zero-there capacity (length w + (i - length w)))
 
-pub record-holds : (n : ℕ) (w : List ℕ) → IsPermutation n w → n ≤ capacity → Holds (recordOf w)
+pub record-holds : (n : ℕ) (w : List ℕ) → IsPermutation n w → n ≤ capacity → GoodRecord (recordOf w)
 record-holds n w p l =
     record {
       short = omega (arith, p .long);
@@ -49,6 +49,6 @@ arranges-given s r p w q e t =
 pub arranged-is-whole : (s : Says (List ℕ)) (r : Arranged) → ((w : List ℕ) → s ≡ gives w → length w ≤ capacity) → Arranges s r → Whole (r .value)
 arranged-is-whole s r short a = subst⁻¹ Whole (a .value) (go s short)
   where
-    go : (s : Says (List ℕ)) → ((w : List ℕ) → s ≡ gives w → length w ≤ capacity) → Whole (valueOf s)
+    go : (s : Says (List ℕ)) → ((w : List ℕ) → s ≡ gives w → length w ≤ capacity) → Whole (recordBeside s)
     go (refusesWith e c) h = refl
-    go (gives w) h = omega (arith, h w refl, length-append w (drop (length w) zeros), length-drop (length w) zeros)
+    go (gives w) h = omega (arith, h w refl, length-append w (drop (length w) emptyEntries), length-drop (length w) emptyEntries)

@@ -15,25 +15,25 @@ use Rattle.arrangements.proofs.Places.{ByPlaces, by-places}
 use Rattle.arrangements.proofs.Group.{inverse-place}
 use Rattle.answers.proofs.Lent.{Filled, filled-word}
 use Rattle.permutation.specs.declared.Permutation.{Permutation as Record}
-use Rattle.permutation.specs.Record.{capacity, zeros, recordOf}
+use Rattle.permutation.specs.Record.{capacity, emptyEntries, recordOf}
 
 abbrev pub at : List ℕ → ℕ → ℕ
 at w k = getD w k 0
 
-pub filled-record : (w out : List ℕ) (i n : ℕ) → Filled (at w) zeros out i → i ≡ n → length w ≡ n → n ≤ capacity
+pub filled-record : (w out : List ℕ) (i n : ℕ) → Filled (at w) emptyEntries out i → i ≡ n → length w ≡ n → n ≤ capacity
     → _≡_ {A = Record} (record { entries = out; len = n }) (recordOf w)
 filled-record w out i n o e l h =
     ap₂ (λ (es : List ℕ) (k : ℕ). record { entries = es; len = k })
-    (filled-word (at w) zeros out w (omega arith) (λ j k. refl) (subst (Filled (at w) zeros out) (e ∙ sym l) o)) (sym l)
+    (filled-word (at w) emptyEntries out w (omega arith) (λ j k. refl) (subst (Filled (at w) emptyEntries out) (e ∙ sym l) o)) (sym l)
 
 -- ---- the inverse
 
 pub record Inverted (w : List ℕ) (n i : ℕ) (out : List ℕ) : Type 0 where
   pub long : length out ≡ capacity
   pub back : (k : ℕ) → k < i → getD out (getD w k 0) 0 ≡ k
-  pub past : (k : ℕ) → n ≤ k → getD out k 0 ≡ getD zeros k 0
+  pub past : (k : ℕ) → n ≤ k → getD out k 0 ≡ getD emptyEntries k 0
 
-pub invert-none : (w : List ℕ) (n : ℕ) → Inverted w n 0 zeros
+pub invert-none : (w : List ℕ) (n : ℕ) → Inverted w n 0 emptyEntries
 invert-none w n = record { long = refl; back = λ k h. omega arith; past = λ k h. refl }
 
 pub invert-more : (w : List ℕ) (n i : ℕ) (out : List ℕ) → Permutation n w → n ≤ capacity → i < n → Inverted w n i out → Inverted w n (i + 1) (set out (getD w i 0) i)
@@ -54,7 +54,7 @@ invert-more w n i out p l h o =
     back k (no q) g =
         getD-set-other out (getD w i 0) (getD w k 0) i 0 (λ e. q (places .apart k i (omega arith) h e)) ∙ o .back k (omega arith)
 
-pub inverted-all : (w : List ℕ) (n i : ℕ) (out : List ℕ) → Permutation n w → n ≤ i → Inverted w n i out → Filled (at (inverse w)) zeros out n
+pub inverted-all : (w : List ℕ) (n i : ℕ) (out : List ℕ) → Permutation n w → n ≤ i → Inverted w n i out → Filled (at (inverse w)) emptyEntries out n
 inverted-all w n i out p l o = record { long = o .long; done = done; rest = o .past }
   where
     done : (v : ℕ) → v < n → getD out v 0 ≡ getD (inverse w) v 0

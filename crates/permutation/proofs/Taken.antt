@@ -20,48 +20,48 @@ use Rattle.answers.proofs.Says.{passed}
 use Rattle.permutation.specs.declared.Permutation.{Permutation}
 use Rattle.permutation.specs.declared.Verdict.{Verdict}
 use Rattle.permutation.specs.declared.Verdict.the-variants as verdict
-use Rattle.permutation.specs.Record.{capacity, zerosOnly, wordOf, Whole, Holds, verdictSays}
-use Rattle.permutation.specs.Rules.{tooLong, isGood, notAPermutation, taken}
+use Rattle.permutation.specs.Record.{capacity, zerosOnly, arrangementOf, Whole, GoodRecord, verdictSays}
+use Rattle.permutation.specs.Rules.{tooLong, isGood, notAPermutation, takenArrangement}
 use Rattle.permutation.proofs.Past.{past-tells, past-passes}
 
-pub word-at : (p : Permutation) (i : ℕ) → i < p .len → getD (wordOf p) i 0 ≡ getD (p .entries) i 0
+pub word-at : (p : Permutation) (i : ℕ) → i < p .len → getD (arrangementOf p) i 0 ≡ getD (p .entries) i 0
 word-at p i h = getD-take (p .len) (p .entries) i 0 h
 
-pub word-long : (p : Permutation) → Whole p → p .len ≤ capacity → length (wordOf p) ≡ p .len
+pub word-long : (p : Permutation) → Whole p → p .len ≤ capacity → length (arrangementOf p) ≡ p .len
 word-long p e h = length-take-le (p .len) (p .entries) (omega arith)
 
-pub holds-below : (p : Permutation) → Holds p → (i : ℕ) → i < p .len → getD (p .entries) i 0 < p .len
-holds-below p h i l = omega (arith, word-at p i l, by-places (p .len) (wordOf p) (h .permutation) .below i l)
+pub holds-below : (p : Permutation) → GoodRecord p → (i : ℕ) → i < p .len → getD (p .entries) i 0 < p .len
+holds-below p h i l = omega (arith, word-at p i l, by-places (p .len) (arrangementOf p) (h .permutation) .below i l)
 
-pub tested-holds : (p : Permutation) → Whole p → p .len ≤ capacity → isGood (p .entries) (p .len) ≡ true → Holds p
+pub tested-holds : (p : Permutation) → Whole p → p .len ≤ capacity → isGood (p .entries) (p .len) ≡ true → GoodRecord p
 unfolding isGood
-tested-holds p e h t = go (isPermutation (wordOf p)) refl t
+tested-holds p e h t = go (isPermutation (arrangementOf p)) refl t
   where
-    go : (s : Bool) → isPermutation (wordOf p) ≡ s → pick s (zerosOnly (drop (p .len) (p .entries))) false ≡ true → Holds p
+    go : (s : Bool) → isPermutation (arrangementOf p) ≡ s → pick s (zerosOnly (drop (p .len) (p .entries))) false ≡ true → GoodRecord p
     go true a z =
-        record { short = h; permutation = test-tells (p .len) (wordOf p) (word-long p e h) a; past = past-tells (p .entries) (p .len) z }
+        record { short = h; permutation = test-tells (p .len) (arrangementOf p) (word-long p e h) a; past = past-tells (p .entries) (p .len) z }
     go false a z = absurd (true≢false (sym z))
 
-pub holds-good : (p : Permutation) → Holds p → isGood (p .entries) (p .len) ≡ true
+pub holds-good : (p : Permutation) → GoodRecord p → isGood (p .entries) (p .len) ≡ true
 unfolding isGood
-holds-good p h = simp (test-passes (p .len) (wordOf p) (h .permutation)) (past-passes (p .entries) (p .len) (h .past))
+holds-good p h = simp (test-passes (p .len) (arrangementOf p) (h .permutation)) (past-passes (p .entries) (p .len) (h .past))
 
-pub taken-holds : (p : Permutation) → Holds p → taken p ≡ gives (wordOf p)
-unfolding taken
+pub taken-holds : (p : Permutation) → GoodRecord p → takenArrangement p ≡ gives (arrangementOf p)
+unfolding takenArrangement
 taken-holds p h = simp (le-ltb capacity (p .len) (h .short), holds-good p h)
 
-pub holds-taken : (p : Permutation) (w : List ℕ) → Whole p → taken p ≡ gives w → Holds p
-unfolding taken
+pub holds-taken : (p : Permutation) (w : List ℕ) → Whole p → takenArrangement p ≡ gives w → GoodRecord p
+unfolding takenArrangement
 holds-taken p w l e =
-    let first = passed (tooLong (p .len)) 1 (refusedIf (notAPermutation p) 10 (gives (wordOf p))) w e in
-    let second = passed (notAPermutation p) 10 (gives (wordOf p)) w (first .1) in
+    let first = passed (tooLong (p .len)) 1 (refusedIf (notAPermutation p) 10 (gives (arrangementOf p))) w e in
+    let second = passed (notAPermutation p) 10 (gives (arrangementOf p)) w (first .1) in
     tested-holds p l (ltb-false capacity (p .len) (first .0)) (not-false (isGood (p .entries) (p .len)) (second .0))
 
 -- ---- the verdict of the check
 
-module _ (p : Permutation) (v : Verdict) (says : verdictSays v (wordOf p) ≡ taken p) where
-  pub verdict-refuses : (e : Refusal) → v ≡ verdict.Refused e → taken p ≡ refusesWith (numberOf e) (carriedBy e)
-  verdict-refuses e q = sym says ∙ ap (λ (x : Verdict). verdictSays x (wordOf p)) q
+module _ (p : Permutation) (v : Verdict) (says : verdictSays v (arrangementOf p) ≡ takenArrangement p) where
+  pub verdict-refuses : (e : Refusal) → v ≡ verdict.Refused e → takenArrangement p ≡ refusesWith (numberOf e) (carriedBy e)
+  verdict-refuses e q = sym says ∙ ap (λ (x : Verdict). verdictSays x (arrangementOf p)) q
 
-  pub verdict-gives : v ≡ verdict.Given → Whole p → Holds p
-  verdict-gives q l = holds-taken p (wordOf p) l (sym says ∙ ap (λ (x : Verdict). verdictSays x (wordOf p)) q)
+  pub verdict-gives : v ≡ verdict.Given → Whole p → GoodRecord p
+  verdict-gives q l = holds-taken p (arrangementOf p) l (sym says ∙ ap (λ (x : Verdict). verdictSays x (arrangementOf p)) q)

@@ -1,16 +1,16 @@
 -- The record of a permutation, and what each answer means in document 01's numbers. Assumes nothing.
 --   capacity    how many entries a record holds
---   wordOf p    the permutation as a list: the first len entries
---   zeros    a record's entries, all 0
+--   arrangementOf p    the permutation as a list: the first len entries
+--   emptyEntries    a record's entries, all 0
 --   zerosOnly w    nothing but zeros stands in w
 --   recordOf w    the record of a list: zeros past its length
 --   Whole p    the record has all its entries, as each of a program has
---   Holds p    the record holds a permutation, not longer than the capacity, and nothing but zeros past it
+--   GoodRecord p    the record holds a permutation, not longer than the capacity, and nothing but zeros past it
 --   Agree p q    both do, and they have one length
 --   Small e from to x    the entries of a record before place `to`, and x, are no greater than the capacity, and the places are within the entries
 --   verdictSays v a    what a verdict means that stands beside the value a
---   signsSays, arrangedSays    what each case of an answer means
---   valueOf s    the record beside the verdict: that of the list, and after a refusal that of the empty one
+--   signatureSays, arrangedSays    what each case of an answer means
+--   recordBeside s    the record beside the verdict: that of the list, and after a refusal that of the empty one
 --   refusal e, giving p    the answers that refuse, and that give a record
 --   Arranges s r    the answer r says s, and holds the record that belongs to it
 use mathlib.Core.Path.{_≡_}
@@ -25,8 +25,8 @@ use Rattle.answers.specs.declared.Refusal.{Refusal}
 use Rattle.answers.specs.declared.Sign.{Sign}
 use Rattle.answers.specs.Says.{Says, refusesWith, gives, numberOf, carriedBy}
 use Rattle.permutation.specs.declared.Permutation.{Permutation}
-use Rattle.permutation.specs.declared.Signs.{Signs}
-use Rattle.permutation.specs.declared.Signs.the-variants as signs
+use Rattle.permutation.specs.declared.Signature.{Signature}
+use Rattle.permutation.specs.declared.Signature.the-variants as signs
 use Rattle.permutation.specs.declared.Verdict.{Verdict}
 use Rattle.permutation.specs.declared.Verdict.the-variants as verdict
 use Rattle.permutation.specs.declared.Arranged.{Arranged}
@@ -34,30 +34,30 @@ use Rattle.permutation.specs.declared.Arranged.{Arranged}
 abbrev pub capacity : ℕ
 capacity = 64
 
-abbrev pub wordOf : Permutation → List ℕ
-wordOf p = take (p .len) (p .entries)
+abbrev pub arrangementOf : Permutation → List ℕ
+arrangementOf p = take (p .len) (p .entries)
 
-abbrev pub zeros : List ℕ
-zeros = replicate capacity 0
+abbrev pub emptyEntries : List ℕ
+emptyEntries = replicate capacity 0
 
 unfoldable pub zerosOnly : List ℕ → Bool
 zerosOnly [] = true
 zerosOnly (x ∷ w) = pick (eqb x 0) (zerosOnly w) false
 
 abbrev pub recordOf : List ℕ → Permutation
-recordOf w = record { entries = w ++ drop (length w) zeros; len = length w }
+recordOf w = record { entries = w ++ drop (length w) emptyEntries; len = length w }
 
 abbrev pub Whole : Permutation → Type 0
 Whole p = length (p .entries) ≡ capacity
 
-pub record Holds (p : Permutation) : Type 0 where
+pub record GoodRecord (p : Permutation) : Type 0 where
   pub short : p .len ≤ capacity
-  pub permutation : IsPermutation (p .len) (wordOf p)
+  pub permutation : IsPermutation (p .len) (arrangementOf p)
   pub past : (i : ℕ) → p .len ≤ i → getD (p .entries) i 0 ≡ 0
 
 pub record Agree (p q : Permutation) : Type 0 where
-  pub left : Holds p
-  pub right : Holds q
+  pub left : GoodRecord p
+  pub right : GoodRecord q
   pub lengths : p .len ≡ q .len
 
 pub record Small (e : List ℕ) (from to x : ℕ) : Type 0 where
@@ -73,16 +73,16 @@ abbrev pub verdictSays : {A : Type 0} → Verdict → A → Says A
 verdictSays verdict.Given a = gives a
 verdictSays (verdict.Refused e) a = refusesWith (numberOf e) (carriedBy e)
 
-abbrev pub signsSays : Signs → Says Sign
-signsSays (signs.Is s) = gives s
-signsSays (signs.Refused e) = refusesWith (numberOf e) (carriedBy e)
+abbrev pub signatureSays : Signature → Says Sign
+signatureSays (signs.Is s) = gives s
+signatureSays (signs.Refused e) = refusesWith (numberOf e) (carriedBy e)
 
 abbrev pub arrangedSays : Arranged → Says (List ℕ)
-arrangedSays r = verdictSays (r .verdict) (wordOf (r .value))
+arrangedSays r = verdictSays (r .verdict) (arrangementOf (r .value))
 
-abbrev pub valueOf : Says (List ℕ) → Permutation
-valueOf (refusesWith e c) = recordOf []
-valueOf (gives w) = recordOf w
+abbrev pub recordBeside : Says (List ℕ) → Permutation
+recordBeside (refusesWith e c) = recordOf []
+recordBeside (gives w) = recordOf w
 
 -- the answers that refuse with e, and that give p
 abbrev pub refusal : Refusal → Arranged
@@ -93,4 +93,4 @@ giving p = record { verdict = verdict.Given; value = p }
 
 pub record Arranges (s : Says (List ℕ)) (r : Arranged) : Type 0 where
   pub says : arrangedSays r ≡ s
-  pub value : r .value ≡ valueOf s
+  pub value : r .value ≡ recordBeside s

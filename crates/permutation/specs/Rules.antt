@@ -2,7 +2,7 @@
 -- Assumes nothing.
 --   tooLong n    a length that passes the capacity: 1
 --   isGood e n    the first n entries are a bijection of 0 .. n-1, and the others are 0
---   taken p    the permutation that a record holds: 1 for its length, 10 if it is not good
+--   takenArrangement p    the permutation that a record holds: 1 for its length, 10 if it is not good
 --   imageSays p i    7 if there is no such place; the image
 use mathlib.Core.Bool.{Bool, false, not}
 use mathlib.Core.List.{List}
@@ -13,7 +13,7 @@ use Rattle.words.specs.Pick.{pick}
 use Rattle.arrangements.specs.Permutation.{isPermutation}
 use Rattle.answers.specs.Says.{Says, gives, refusedIf, andThen}
 use Rattle.permutation.specs.declared.Permutation.{Permutation}
-use Rattle.permutation.specs.Record.{capacity, zerosOnly, wordOf}
+use Rattle.permutation.specs.Record.{capacity, zerosOnly, arrangementOf}
 
 abbrev pub tooLong : ℕ → Bool
 tooLong n = ltb capacity n
@@ -25,8 +25,8 @@ isGood e n = pick (isPermutation (take n e)) (zerosOnly (drop n e)) false
 abbrev pub notAPermutation : Permutation → Bool
 notAPermutation p = not (isGood (p .entries) (p .len))
 
-unfoldable pub taken : Permutation → Says (List ℕ)
-taken p = refusedIf (tooLong (p .len)) 1 (refusedIf (notAPermutation p) 10 (gives (wordOf p)))
+unfoldable pub takenArrangement : Permutation → Says (List ℕ)
+takenArrangement p = refusedIf (tooLong (p .len)) 1 (refusedIf (notAPermutation p) 10 (gives (arrangementOf p)))
 
 abbrev pub imageSays : Permutation → ℕ → Says ℕ
-imageSays p i = andThen (taken p) (λ w. refusedIf (leb (p .len) i) 7 (gives (getD w i 0)))
+imageSays p i = andThen (takenArrangement p) (λ w. refusedIf (leb (p .len) i) 7 (gives (getD w i 0)))

@@ -5,8 +5,8 @@ ghost use Prim.Native.Nat.{_≤_};
 ghost use lib.ListN.{length, take, drop};
 ghost use Rattle.answers.specs.Says.{answerSays};
 ghost use Rattle.arrangements.specs.Permutation.{isPermutation};
-ghost use Rattle.permutation.specs.Record.{capacity, zerosOnly, wordOf, verdictSays, refusal, giving};
-ghost use Rattle.permutation.specs.Rules.{isGood, taken, imageSays};
+ghost use Rattle.permutation.specs.Record.{capacity, zerosOnly, arrangementOf, verdictSays, refusal, giving};
+ghost use Rattle.permutation.specs.Rules.{isGood, takenArrangement, imageSays};
 use answers::Answer;
 use answers::Refusal;
 use answers::Sign;
@@ -22,7 +22,7 @@ pub struct Permutation {
 }
 
 // A sign, or why there is none.
-pub enum Signs {
+pub enum Signature {
     Is(Sign),
     Refused(Refusal),
 }
@@ -115,7 +115,7 @@ pub fn given(p: Permutation) -> Arranged
 
 // 1 if the length passes the capacity, 10 if it is not the record of a permutation.
 pub fn checked(p: Permutation) -> Verdict
-    ensures { λ r. ⌜ verdictSays r (wordOf p) ≡ taken p ⌝ }
+    ensures { λ r. ⌜ verdictSays r (arrangementOf p) ≡ takenArrangement p ⌝ }
 {
     let n = p.len;
     if n > CAPACITY as u64 {

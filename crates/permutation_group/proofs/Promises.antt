@@ -28,8 +28,8 @@ use Rattle.answers.proofs.Says.{gives-same, passed, then-gave}
 use Rattle.answers.proofs.Signs.{sign-of-parity, times-of-sum}
 use Rattle.permutation.specs.declared.Permutation.{Permutation}
 use Rattle.permutation.specs.declared.Arranged.{Arranged}
-use Rattle.permutation.specs.Record.{capacity, wordOf, recordOf, Whole, Holds, Agree, Arranges}
-use Rattle.permutation.specs.Rules.{tooLong, isGood, notAPermutation, taken}
+use Rattle.permutation.specs.Record.{capacity, arrangementOf, recordOf, Whole, GoodRecord, Agree, Arranges}
+use Rattle.permutation.specs.Rules.{tooLong, isGood, notAPermutation, takenArrangement}
 use Rattle.permutation_group.specs.Rules.{inverseSays, composeSays, signSays}
 use Rattle.permutation.proofs.Taken.{tested-holds, holds-good, taken-holds, holds-taken}
 use Rattle.permutation.proofs.Arranging.{word-of-record, record-holds, arranged-is-whole}
@@ -37,7 +37,7 @@ use Rattle.permutation.proofs.Promises.{given-is-taken}
 
 -- ---- composition
 
-compose-agree : (p q : Permutation) → Agree p q → composeSays p q ≡ gives (compose (wordOf p) (wordOf q))
+compose-agree : (p q : Permutation) → Agree p q → composeSays p q ≡ gives (compose (arrangementOf p) (arrangementOf q))
 compose-agree p q a =
     simp (
       le-ltb capacity (p .len) (a .left .short),
@@ -53,75 +53,75 @@ compose-given p q l m w e =
     let b = passed (tooLong (q .len)) 1 _ w (a .1) in
     let c = passed (not (eqb (p .len) (q .len))) 8 _ w (b .1) in
     let d = passed (notAPermutation p) 10 _ w (c .1) in
-    let f = passed (notAPermutation q) 10 (gives (compose (wordOf p) (wordOf q))) w (d .1) in
+    let f = passed (notAPermutation q) 10 (gives (compose (arrangementOf p) (arrangementOf q))) w (d .1) in
     record {
       left = tested-holds p l (ltb-false capacity (p .len) (a .0)) (not-false (isGood (p .entries) (p .len)) (d .0));
       right = tested-holds q m (ltb-false capacity (q .len) (b .0)) (not-false (isGood (q .entries) (q .len)) (f .0));
       lengths = eqb-true (p .len) (q .len) (not-false (eqb (p .len) (q .len)) (c .0));
     }
 
-pub compose-exactly : (p q : Permutation) → Whole p → Whole q → (w : List ℕ) → (composeSays p q ≡ gives w) ↔ (Agree p q × (w ≡ compose (wordOf p) (wordOf q)))
+pub compose-exactly : (p q : Permutation) → Whole p → Whole q → (w : List ℕ) → (composeSays p q ≡ gives w) ↔ (Agree p q × (w ≡ compose (arrangementOf p) (arrangementOf q)))
 compose-exactly p q l m w = (
-  λ e. (compose-given p q l m w e, gives-same w (compose (wordOf p) (wordOf q)) (sym e ∙ compose-agree p q (compose-given p q l m w e))),
+  λ e. (compose-given p q l m w e, gives-same w (compose (arrangementOf p) (arrangementOf q)) (sym e ∙ compose-agree p q (compose-given p q l m w e))),
   λ t. compose-agree p q (t .0) ∙ ap gives (sym (t .1)),
 )
 
 module _ (p q : Permutation) (l : Whole p) (m : Whole q) (w : List ℕ) (e : composeSays p q ≡ gives w) where
-  composed : Agree p q × (w ≡ compose (wordOf p) (wordOf q))
+  composed : Agree p q × (w ≡ compose (arrangementOf p) (arrangementOf q))
   composed = compose-exactly p q l m w .0 e
 
-  pub composition-sends : (i : ℕ) → i < p .len → getD w i 0 ≡ getD (wordOf p) (getD (wordOf q) i 0) 0
+  pub composition-sends : (i : ℕ) → i < p .len → getD w i 0 ≡ getD (arrangementOf p) (getD (arrangementOf q) i 0) 0
   composition-sends i h =
-      ap (λ (u : List ℕ). getD u i 0) (composed .1) ∙ compose-at (wordOf p) (wordOf q) i (omega (arith, composed .0 .lengths, composed .0 .right .permutation .long))
+      ap (λ (u : List ℕ). getD u i 0) (composed .1) ∙ compose-at (arrangementOf p) (arrangementOf q) i (omega (arith, composed .0 .lengths, composed .0 .right .permutation .long))
 
   pub composition-is-a-permutation : IsPermutation (p .len) w
   composition-is-a-permutation =
       subst⁻¹ (IsPermutation (p .len)) (composed .1)
-      (compose-is-a-permutation (p .len) (wordOf p) (wordOf q) (composed .0 .left .permutation)
-      (subst⁻¹ (λ (n : ℕ). IsPermutation n (wordOf q)) (composed .0 .lengths) (composed .0 .right .permutation)))
+      (compose-is-a-permutation (p .len) (arrangementOf p) (arrangementOf q) (composed .0 .left .permutation)
+      (subst⁻¹ (λ (n : ℕ). IsPermutation n (arrangementOf q)) (composed .0 .lengths) (composed .0 .right .permutation)))
 
 -- ---- the inverse
 
-inverse-given : (p : Permutation) → Whole p → (v : List ℕ) → inverseSays p ≡ gives v → Holds p × (v ≡ inverse (wordOf p))
+inverse-given : (p : Permutation) → Whole p → (v : List ℕ) → inverseSays p ≡ gives v → GoodRecord p × (v ≡ inverse (arrangementOf p))
 inverse-given p l v e =
-    let t = then-gave (taken p) (λ w. gives (inverse w)) v e in
+    let t = then-gave (takenArrangement p) (λ w. gives (inverse w)) v e in
     let h = holds-taken p (t .0) l (t .1) in
-    (h, gives-same v (inverse (wordOf p)) (sym e ∙ simp (taken-holds p h)))
+    (h, gives-same v (inverse (arrangementOf p)) (sym e ∙ simp (taken-holds p h)))
 
 module _ (p : Permutation) (l : Whole p) (v : List ℕ) (e : inverseSays p ≡ gives v) where
-  inverted : Holds p × (v ≡ inverse (wordOf p))
+  inverted : GoodRecord p × (v ≡ inverse (arrangementOf p))
   inverted = inverse-given p l v e
 
   pub inverse-of-a-permutation : IsPermutation (p .len) v
-  inverse-of-a-permutation = subst⁻¹ (IsPermutation (p .len)) (inverted .1) (inverse-is-a-permutation (p .len) (wordOf p) (inverted .0 .permutation))
+  inverse-of-a-permutation = subst⁻¹ (IsPermutation (p .len)) (inverted .1) (inverse-is-a-permutation (p .len) (arrangementOf p) (inverted .0 .permutation))
 
   pub compose-with-inverse : (composeSays p (recordOf v) ≡ gives (identity (p .len))) × (composeSays (recordOf v) p ≡ gives (identity (p .len)))
   compose-with-inverse = (
     compose-agree p (recordOf v) (record { left = inverted .0; right = record-holds (p .len) v inverse-of-a-permutation (inverted .0 .short); lengths = sym long })
-        ∙ ap gives (ap (compose (wordOf p)) back ∙ compose-inverse (p .len) (wordOf p) (inverted .0 .permutation)),
+        ∙ ap gives (ap (compose (arrangementOf p)) back ∙ compose-inverse (p .len) (arrangementOf p) (inverted .0 .permutation)),
     compose-agree (recordOf v) p (record { left = record-holds (p .len) v inverse-of-a-permutation (inverted .0 .short); right = inverted .0; lengths = long })
-        ∙ ap gives (ap (λ (u : List ℕ). compose u (wordOf p)) back ∙ inverse-compose (p .len) (wordOf p) (inverted .0 .permutation)),
+        ∙ ap gives (ap (λ (u : List ℕ). compose u (arrangementOf p)) back ∙ inverse-compose (p .len) (arrangementOf p) (inverted .0 .permutation)),
   )
     where
       long : length v ≡ p .len
       long = inverse-of-a-permutation .long
 
-      back : wordOf (recordOf v) ≡ inverse (wordOf p)
+      back : arrangementOf (recordOf v) ≡ inverse (arrangementOf p)
       back = word-of-record v ∙ inverted .1
 
 pub composition-is-associative : (p q r : Permutation) → Whole p → Whole q → Whole r → (u v : List ℕ) → composeSays p q ≡ gives u → composeSays q r ≡ gives v
     → composeSays (recordOf u) r ≡ composeSays p (recordOf v)
 composition-is-associative p q r l m k u v e f =
     compose-agree (recordOf u) r (record { left = record-holds (p .len) u pu (a .0 .left .short); right = b .0 .right; lengths = pu .long ∙ a .0 .lengths ∙ b .0 .lengths })
-    ∙ ap gives (ap (λ (w : List ℕ). compose w (wordOf r)) (word-of-record u ∙ a .1)
-    ∙ compose-associative (wordOf p) (wordOf q) (wordOf r) (subst⁻¹ (λ (n : ℕ). Below n (wordOf r)) (b .0 .left .permutation .long ∙ b .0 .lengths) (b .0 .right .permutation .below))
-    ∙ ap (compose (wordOf p)) (sym (word-of-record v ∙ b .1)))
+    ∙ ap gives (ap (λ (w : List ℕ). compose w (arrangementOf r)) (word-of-record u ∙ a .1)
+    ∙ compose-associative (arrangementOf p) (arrangementOf q) (arrangementOf r) (subst⁻¹ (λ (n : ℕ). Below n (arrangementOf r)) (b .0 .left .permutation .long ∙ b .0 .lengths) (b .0 .right .permutation .below))
+    ∙ ap (compose (arrangementOf p)) (sym (word-of-record v ∙ b .1)))
     ∙ sym (compose-agree p (recordOf v) (record { left = a .0 .left; right = record-holds (q .len) v pv (b .0 .left .short); lengths = a .0 .lengths ∙ sym (pv .long) }))
   where
-    a : Agree p q × (u ≡ compose (wordOf p) (wordOf q))
+    a : Agree p q × (u ≡ compose (arrangementOf p) (arrangementOf q))
     a = compose-exactly p q l m u .0 e
 
-    b : Agree q r × (v ≡ compose (wordOf q) (wordOf r))
+    b : Agree q r × (v ≡ compose (arrangementOf q) (arrangementOf r))
     b = compose-exactly q r m k v .0 f
 
     pu : IsPermutation (p .len) u
@@ -140,15 +140,15 @@ pub compose-gives-a-whole-record : (p q : Permutation) → Whole p → Whole q �
 compose-gives-a-whole-record p q l m r a =
     arranged-is-whole (composeSays p q) r (λ w e. omega (arith, compose-given p q l m w e .left .short, composition-is-a-permutation p q l m w e .long)) a
 
-pub inverse-is-taken : (p : Permutation) → Whole p → (v : List ℕ) → inverseSays p ≡ gives v → taken (recordOf v) ≡ gives v
+pub inverse-is-taken : (p : Permutation) → Whole p → (v : List ℕ) → inverseSays p ≡ gives v → takenArrangement (recordOf v) ≡ gives v
 inverse-is-taken p l v e = given-is-taken (p .len) v (inverse-of-a-permutation p l v e) (inverse-given p l v e .0 .short)
 
-pub composition-is-taken : (p q : Permutation) → Whole p → Whole q → (w : List ℕ) → composeSays p q ≡ gives w → taken (recordOf w) ≡ gives w
+pub composition-is-taken : (p q : Permutation) → Whole p → Whole q → (w : List ℕ) → composeSays p q ≡ gives w → takenArrangement (recordOf w) ≡ gives w
 composition-is-taken p q l m w e = given-is-taken (p .len) w (composition-is-a-permutation p q l m w e) (compose-given p q l m w e .left .short)
 
 -- ---- the sign
 
-sign-of : (p : Permutation) → Holds p → signSays p ≡ gives (signOf (inversions (wordOf p)))
+sign-of : (p : Permutation) → GoodRecord p → signSays p ≡ gives (signOf (inversions (arrangementOf p)))
 sign-of p h = simp (taken-holds p h)
 
 -- the sign of the record of a list
@@ -160,24 +160,24 @@ pub sign-of-composition : (p q : Permutation) → Whole p → Whole q → (w : L
 sign-of-composition p q l m w a b e f g =
     sign-of-record (p .len) w (composition-is-a-permutation p q l m w e) (t .0 .left .short)
     ∙ ap gives (ap (λ (u : List ℕ). signOf (inversions u)) (t .1)
-    ∙ sign-of-parity (inversions (compose (wordOf p) (wordOf q))) (inversions (wordOf p) + inversions (wordOf q)) parities
-    ∙ sym (times-of-sum (inversions (wordOf p)) (inversions (wordOf q)))
+    ∙ sign-of-parity (inversions (compose (arrangementOf p) (arrangementOf q))) (inversions (arrangementOf p) + inversions (arrangementOf q)) parities
+    ∙ sym (times-of-sum (inversions (arrangementOf p)) (inversions (arrangementOf q)))
     ∙ ap₂ times (gives-same _ a (sym (sign-of p (t .0 .left)) ∙ f)) (gives-same _ b (sym (sign-of q (t .0 .right)) ∙ g)))
   where
-    t : Agree p q × (w ≡ compose (wordOf p) (wordOf q))
+    t : Agree p q × (w ≡ compose (arrangementOf p) (arrangementOf q))
     t = compose-exactly p q l m w .0 e
 
-    parities : parity (inversions (compose (wordOf p) (wordOf q))) ≡ parity (inversions (wordOf p) + inversions (wordOf q))
+    parities : parity (inversions (compose (arrangementOf p) (arrangementOf q))) ≡ parity (inversions (arrangementOf p) + inversions (arrangementOf q))
     parities =
-        parity-of-compose (p .len) (wordOf p) (wordOf q) (t .0 .left .permutation)
-        (subst⁻¹ (λ (n : ℕ). IsPermutation n (wordOf q)) (t .0 .lengths) (t .0 .right .permutation))
+        parity-of-compose (p .len) (arrangementOf p) (arrangementOf q) (t .0 .left .permutation)
+        (subst⁻¹ (λ (n : ℕ). IsPermutation n (arrangementOf q)) (t .0 .lengths) (t .0 .right .permutation))
 
 pub sign-of-inverse : (p : Permutation) → Whole p → (v : List ℕ) → inverseSays p ≡ gives v → signSays (recordOf v) ≡ signSays p
 sign-of-inverse p l v e =
     sign-of-record (p .len) v (inverse-of-a-permutation p l v e) (t .0 .short)
     ∙ ap gives (ap (λ (u : List ℕ). signOf (inversions u)) (t .1)
-    ∙ sign-of-parity (inversions (inverse (wordOf p))) (inversions (wordOf p)) (parity-of-inverse (p .len) (wordOf p) (t .0 .permutation)))
+    ∙ sign-of-parity (inversions (inverse (arrangementOf p))) (inversions (arrangementOf p)) (parity-of-inverse (p .len) (arrangementOf p) (t .0 .permutation)))
     ∙ sym (sign-of p (t .0))
   where
-    t : Holds p × (v ≡ inverse (wordOf p))
+    t : GoodRecord p × (v ≡ inverse (arrangementOf p))
     t = inverse-given p l v e

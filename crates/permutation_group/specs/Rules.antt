@@ -11,11 +11,11 @@ use Rattle.answers.specs.declared.Sign.{Sign}
 use Rattle.answers.specs.Says.{Says, gives, refusedIf, andThen}
 use Rattle.answers.specs.Signs.{signOf}
 use Rattle.permutation.specs.declared.Permutation.{Permutation}
-use Rattle.permutation.specs.Record.{wordOf}
-use Rattle.permutation.specs.Rules.{tooLong, notAPermutation, taken}
+use Rattle.permutation.specs.Record.{arrangementOf}
+use Rattle.permutation.specs.Rules.{tooLong, notAPermutation, takenArrangement}
 
 abbrev pub inverseSays : Permutation → Says (List ℕ)
-inverseSays p = andThen (taken p) (λ w. gives (inverse w))
+inverseSays p = andThen (takenArrangement p) (λ w. gives (inverse w))
 
 abbrev pub composeSays : Permutation → Permutation → Says (List ℕ)
 composeSays p q =
@@ -24,7 +24,7 @@ composeSays p q =
     (refusedIf (not (eqb (p .len) (q .len))) 8
     (refusedIf (notAPermutation p) 10
     (refusedIf (notAPermutation q) 10
-    (gives (compose (wordOf p) (wordOf q)))))))
+    (gives (compose (arrangementOf p) (arrangementOf q)))))))
 
 abbrev pub signSays : Permutation → Says Sign
-signSays p = andThen (taken p) (λ w. gives (signOf (inversions w)))
+signSays p = andThen (takenArrangement p) (λ w. gives (signOf (inversions w)))

@@ -11,17 +11,17 @@ use native.Mathlib.Numerals.{add-one}
 use Rattle.words.specs.Factorial.{factorial}
 use Rattle.words.proofs.Factorial.{factorial-positive}
 use Rattle.arrangements.specs.Permutation.{Permutation}
-use Rattle.arrangements.specs.Rank.{lastly, unrankOf}
+use Rattle.arrangements.specs.Rank.{lastly, arrangementUnrank}
 use Rattle.arrangements.proofs.Unrank.{unrank-is-a-permutation, unrank-next, quotient-next}
 use Rattle.permutation.specs.declared.Permutation.{Permutation as Record}
-use Rattle.permutation.specs.Record.{capacity, wordOf, recordOf, Holds}
+use Rattle.permutation.specs.Record.{capacity, arrangementOf, recordOf, GoodRecord}
 use Rattle.permutation.proofs.Arranging.{word-of-record, record-holds}
 
 unfoldable pub made : ℕ → ℕ → List ℕ
-made j r = unrankOf j (r % factorial j)
+made j r = arrangementUnrank j (r % factorial j)
 
 pub make-none : (r : ℕ) → recordOf [] ≡ recordOf (made 0 r)
-unfolding made unrankOf
+unfolding made arrangementUnrank
 make-none r = refl
 
 pub rest-none : (r : ℕ) → r ≡ r / factorial 0
@@ -32,18 +32,18 @@ made-permutation : (j r : ℕ) → Permutation j (made j r)
 unfolding made
 made-permutation j r = unrank-is-a-permutation j (r % factorial j) (mod-lt r (factorial-positive j))
 
-pub made-holds : (j r : ℕ) (p : Record) → p ≡ recordOf (made j r) → j ≤ capacity → Holds p × (p .len ≡ j)
+pub made-holds : (j r : ℕ) (p : Record) → p ≡ recordOf (made j r) → j ≤ capacity → GoodRecord p × (p .len ≡ j)
 made-holds j r p e l =
-    subst⁻¹ (λ (q : Record). Holds q × (q .len ≡ j)) e (record-holds j (made j r) (made-permutation j r) l, made-permutation j r .long)
+    subst⁻¹ (λ (q : Record). GoodRecord q × (q .len ≡ j)) e (record-holds j (made j r) (made-permutation j r) l, made-permutation j r .long)
 
 module _ (j r rest : ℕ) (e : rest ≡ r / factorial j) where
-  pub make-more : (p q : Record) → p ≡ recordOf (made j r) → q ≡ recordOf (lastly (rest % (j + 1)) (wordOf p)) → q ≡ recordOf (made (j + 1) r)
+  pub make-more : (p q : Record) → p ≡ recordOf (made j r) → q ≡ recordOf (lastly (rest % (j + 1)) (arrangementOf p)) → q ≡ recordOf (made (j + 1) r)
   unfolding made
-  make-more p q f g = g ∙ ap recordOf (ap₂ lastly (ap₂ (λ (a b : ℕ). a % b) e (add-one j)) (ap wordOf f ∙ word-of-record (made j r)) ∙ sym (unrank-next j r) ∙ ap (λ (n : ℕ). made n r) (sym (add-one j)))
+  make-more p q f g = g ∙ ap recordOf (ap₂ lastly (ap₂ (λ (a b : ℕ). a % b) e (add-one j)) (ap arrangementOf f ∙ word-of-record (made j r)) ∙ sym (unrank-next j r) ∙ ap (λ (n : ℕ). made n r) (sym (add-one j)))
 
   pub rest-more : rest / (j + 1) ≡ r / factorial (j + 1)
   rest-more = ap₂ (λ (a b : ℕ). a / b) e (add-one j) ∙ quotient-next j r ∙ ap (λ (n : ℕ). r / factorial n) (sym (add-one j))
 
-pub made-all : (n r : ℕ) → r < factorial n → made n r ≡ unrankOf n r
+pub made-all : (n r : ℕ) → r < factorial n → made n r ≡ arrangementUnrank n r
 unfolding made
-made-all n r h = ap (unrankOf n) (mod-eq-of-lt h)
+made-all n r h = ap (arrangementUnrank n) (mod-eq-of-lt h)

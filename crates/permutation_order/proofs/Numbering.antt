@@ -11,26 +11,26 @@ use Rattle.answers.proofs.Says.{passed}
 use Rattle.permutation.specs.declared.Permutation.{Permutation}
 use Rattle.permutation.specs.declared.Verdict.{Verdict}
 use Rattle.permutation.specs.declared.Verdict.the-variants as verdict
-use Rattle.permutation.specs.Record.{wordOf, Whole, verdictSays}
-use Rattle.permutation.specs.Rules.{taken}
+use Rattle.permutation.specs.Record.{arrangementOf, Whole, verdictSays}
+use Rattle.permutation.specs.Rules.{takenArrangement}
 use Rattle.permutation.proofs.Taken.{taken-holds, holds-taken}
-use Rattle.permutation_order.specs.Rules.{longest, unnumbered, numbered, Ordered}
+use Rattle.permutation_order.specs.Rules.{longestNumbered, unnumbered, numbered, Ordered}
 
-pub ordered-numbered : (p : Permutation) → Ordered p → numbered p ≡ gives (wordOf p)
+pub ordered-numbered : (p : Permutation) → Ordered p → numbered p ≡ gives (arrangementOf p)
 unfolding numbered
-ordered-numbered p o = simp (le-ltb longest (p .len) (o .few), taken-holds p (o .holds))
+ordered-numbered p o = simp (le-ltb longestNumbered (p .len) (o .few), taken-holds p (o .holds))
 
 pub numbered-ordered : (p : Permutation) (w : List ℕ) → Whole p → numbered p ≡ gives w → Ordered p
 unfolding numbered
 numbered-ordered p w l e =
-    let t = passed (unnumbered (p .len)) 1 (taken p) w e in
-    record { holds = holds-taken p w l (t .1); few = ltb-false longest (p .len) (t .0) }
+    let t = passed (unnumbered (p .len)) 1 (takenArrangement p) w e in
+    record { holds = holds-taken p w l (t .1); few = ltb-false longestNumbered (p .len) (t .0) }
 
 -- ---- the verdict of the check
 
-module _ (p : Permutation) (v : Verdict) (says : verdictSays v (wordOf p) ≡ numbered p) where
+module _ (p : Permutation) (v : Verdict) (says : verdictSays v (arrangementOf p) ≡ numbered p) where
   pub numbered-refuses : (e : Refusal) → v ≡ verdict.Refused e → numbered p ≡ refusesWith (numberOf e) (carriedBy e)
-  numbered-refuses e q = sym says ∙ ap (λ (x : Verdict). verdictSays x (wordOf p)) q
+  numbered-refuses e q = sym says ∙ ap (λ (x : Verdict). verdictSays x (arrangementOf p)) q
 
   pub numbered-gives : v ≡ verdict.Given → Whole p → Ordered p
-  numbered-gives q l = numbered-ordered p (wordOf p) l (sym says ∙ ap (λ (x : Verdict). verdictSays x (wordOf p)) q)
+  numbered-gives q l = numbered-ordered p (arrangementOf p) l (sym says ∙ ap (λ (x : Verdict). verdictSays x (arrangementOf p)) q)

@@ -13,7 +13,7 @@ use Rattle.words.specs.Inversions.{smallerIn}
 use Rattle.words.proofs.Factorial.{factorial-grows}
 use Rattle.arrangements.specs.Rank.{digit, rankBelow}
 use Rattle.arrangements.proofs.Rank.{rank-below-factorial}
-use Rattle.permutation_order.specs.Rules.{longest}
+use Rattle.permutation_order.specs.Rules.{longestNumbered}
 
 pub rank-turn : (e : List ℕ) (n j sum d f : ℕ) → j < n → sum ≡ rankBelow (take n e) j → d ≡ smallerIn (getD e j 0) (slice 0 j e) → f ≡ factorial j
     → sum + d * f ≡ rankBelow (take n e) (j + 1)
@@ -25,6 +25,6 @@ rank-turn e n j sum d f h p q r =
     digits = ap₂ (λ (x : ℕ) (w : List ℕ). smallerIn x w) (getD-take n e j 0 h) (take-take j n e (omega arith))
 
 -- 20! is below 2 ^ 64
-pub rank-fits : (p : List ℕ) (k : ℕ) → k ≤ longest → rankBelow p k < 2 ^ 64
+pub rank-fits : (p : List ℕ) (k : ℕ) → k ≤ longestNumbered → rankBelow p k < 2 ^ 64
 unfolding factorial
 rank-fits p k h = omega (arith, rank-below-factorial p k, factorial-grows h)

@@ -4,10 +4,10 @@ ghost use mathlib.Core.Path.{_≡_};
 ghost use Prim.Native.Nat.{_%_, _≤_, _<_};
 ghost use Rattle.words.specs.Factorial.{factorial as factorialOf};
 ghost use Rattle.answers.specs.Says.{answerSays};
-ghost use Rattle.arrangements.specs.Rank.{rankOf, raise, lastly, unrankOf};
+ghost use Rattle.arrangements.specs.Rank.{arrangementRank, raise, lastly, arrangementUnrank};
 ghost use Rattle.arrangements.specs.Step.{FirstFall, FirstGreater, turn, exchange, step};
-ghost use Rattle.permutation.specs.Record.{wordOf, recordOf, Holds, verdictSays, Arranges};
-ghost use Rattle.permutation_order.specs.Rules.{longest, numbered as numberedOf, rankSays, unrankSays, successorSays};
+ghost use Rattle.permutation.specs.Record.{arrangementOf, recordOf, GoodRecord, verdictSays, Arranges};
+ghost use Rattle.permutation_order.specs.Rules.{longestNumbered, numbered as numberedOf, arrangementRankSays, arrangementUnrankSays, arrangementSuccessorSays};
 use answers::Answer;
 use answers::Refusal;
 use permutation::Arranged;
@@ -20,7 +20,7 @@ pub const LONGEST: u64 = 20;
 
 // 1 if the length is above those that are numbered; 1 and 10 of the record.
 fn numbered(p: Permutation) -> Verdict
-    ensures { λ r. ⌜ verdictSays r (wordOf p) ≡ numberedOf p ⌝ }
+    ensures { λ r. ⌜ verdictSays r (arrangementOf p) ≡ numberedOf p ⌝ }
 {
     let n = p.len;
     if n > LONGEST {
@@ -31,8 +31,8 @@ fn numbered(p: Permutation) -> Verdict
 
 // The sum of d_j times j!, where d_j counts the smaller entries left of place j.
 fn weight(p: Permutation) -> u64
-    requires { ⌜ p .len ≤ longest ⌝ }
-    ensures { λ r. ⌜ r ≡ rankOf (wordOf p) ⌝ }
+    requires { ⌜ p .len ≤ longestNumbered ⌝ }
+    ensures { λ r. ⌜ r ≡ arrangementRank (arrangementOf p) ⌝ }
 {
     let n = p.len;
     let entries = p.entries;
@@ -50,7 +50,7 @@ fn weight(p: Permutation) -> u64
 
 // The rank among the permutations of its length, in colex order: 1 and 10 of the record.
 pub fn rank(p: Permutation) -> Answer
-    ensures { λ r. ⌜ answerSays r ≡ rankSays p ⌝ }
+    ensures { λ r. ⌜ answerSays r ≡ arrangementRankSays p ⌝ }
 {
     match numbered(p) {
         Verdict::Refused(e) => Answer::Refused(e),
@@ -60,7 +60,7 @@ pub fn rank(p: Permutation) -> Answer
 
 // x, raised by one from d up: so nothing is d.
 fn raised(d: u64, x: u64) -> u64
-    requires { ⌜ x < longest ⌝ }
+    requires { ⌜ x < longestNumbered ⌝ }
     ensures { λ r. ⌜ r ≡ raise d x ⌝ }
 {
     if x < d {
@@ -71,8 +71,8 @@ fn raised(d: u64, x: u64) -> u64
 
 // The permutation of one entry more whose last entry is d: the others from d up are raised by one to make room for it.
 fn with_last(p: Permutation, d: u64) -> Permutation
-    requires { ⌜ Holds p × (p .len < longest) ⌝ }
-    ensures { λ r. ⌜ r ≡ recordOf (lastly d (wordOf p)) ⌝ }
+    requires { ⌜ GoodRecord p × (p .len < longestNumbered) ⌝ }
+    ensures { λ r. ⌜ r ≡ recordOf (lastly d (arrangementOf p)) ⌝ }
 {
     let n = p.len;
     let mut out = [0u64; CAPACITY];
@@ -91,8 +91,8 @@ fn with_last(p: Permutation, d: u64) -> Permutation
 
 // The permutation of n entries of rank r, from the digits of r in the factorial number system, the lowest first.
 fn unranked(n: u64, r: u64) -> Permutation
-    requires { ⌜ n ≤ longest ⌝ }
-    ensures { λ p. ⌜ p ≡ recordOf (unrankOf n (r % factorialOf n)) ⌝ }
+    requires { ⌜ n ≤ longestNumbered ⌝ }
+    ensures { λ p. ⌜ p ≡ recordOf (arrangementUnrank n (r % factorialOf n)) ⌝ }
 {
     let mut p = Permutation {
         entries: [0u64; CAPACITY],
@@ -111,7 +111,7 @@ fn unranked(n: u64, r: u64) -> Permutation
 
 // The permutation of n entries of rank r: 1 for n, 3 if there are not so many.
 pub fn unrank(n: u64, r: u64) -> Arranged
-    ensures { λ a. ⌜ Arranges (unrankSays n r) a ⌝ }
+    ensures { λ a. ⌜ Arranges (arrangementUnrankSays n r) a ⌝ }
 {
     if n > LONGEST {
         return permutation::refused(Refusal::TooWide);
@@ -124,8 +124,8 @@ pub fn unrank(n: u64, r: u64) -> Arranged
 
 // The lowest place whose entry is smaller than the one before it; the length if all entries rise.
 fn first_fall(p: Permutation) -> u64
-    requires { ⌜ Holds p ⌝ }
-    ensures { λ k. ⌜ FirstFall (p .len) (wordOf p) k ⌝ }
+    requires { ⌜ GoodRecord p ⌝ }
+    ensures { λ k. ⌜ FirstFall (p .len) (arrangementOf p) k ⌝ }
 {
     let n = p.len;
     let mut k = 1u64;
@@ -141,8 +141,8 @@ fn first_fall(p: Permutation) -> u64
 
 // The lowest place below k whose entry is greater than that at k; k if there is none.
 fn first_greater(p: Permutation, k: u64) -> u64
-    requires { ⌜ Holds p × (k < p .len) ⌝ }
-    ensures { λ i. ⌜ FirstGreater (wordOf p) k i ⌝ }
+    requires { ⌜ GoodRecord p × (k < p .len) ⌝ }
+    ensures { λ i. ⌜ FirstGreater (arrangementOf p) k i ⌝ }
 {
     let x = p.entries[k as usize];
     let mut i = 0u64;
@@ -180,8 +180,8 @@ fn exchanged(i: u64, k: u64, j: u64) -> u64
 
 // The entries at the places i and k exchanged, and then those below place k turned round.
 fn stepped(p: Permutation, i: u64, k: u64) -> Permutation
-    requires { ⌜ Holds p × (i < k) × (k < p .len) ⌝ }
-    ensures { λ r. ⌜ r ≡ recordOf (step i k (wordOf p)) ⌝ }
+    requires { ⌜ GoodRecord p × (i < k) × (k < p .len) ⌝ }
+    ensures { λ r. ⌜ r ≡ recordOf (step i k (arrangementOf p)) ⌝ }
 {
     let n = p.len;
     let mut out = [0u64; CAPACITY];
@@ -199,7 +199,7 @@ fn stepped(p: Permutation, i: u64, k: u64) -> Permutation
 
 // The next permutation in colex order: 1 and 10 of the record, 4 if there is none.
 pub fn successor(p: Permutation) -> Arranged
-    ensures { λ r. ⌜ Arranges (successorSays p) r ⌝ }
+    ensures { λ r. ⌜ Arranges (arrangementSuccessorSays p) r ⌝ }
 {
     match numbered(p) {
         Verdict::Refused(e) => permutation::refused(e),

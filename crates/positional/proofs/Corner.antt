@@ -10,7 +10,7 @@ use native.Mathlib.Omega.{arith}
 use lib.ListN.{length, replicate}
 use Rattle.words.specs.Bits.{setBits, onesFrom}
 use Rattle.words.proofs.Digits.{set-bits-halves}
-use Rattle.positional.specs.Positional.{product, stride, cornerOf, numberOf, digitsOf}
+use Rattle.positional.specs.Positional.{product, stride, cornerOf, positionalValue, digitsOf}
 
 corner-append : (rs u v : List ℕ) → cornerOf rs (u ++ v) ≡ cornerOf rs u + cornerOf rs v
 unfolding cornerOf
@@ -41,8 +41,8 @@ corner-turn r rs a =
 pub corner-none : (rs : List ℕ) → cornerOf rs (setBits 0) ≡ 0
 corner-none rs = corner-lowest rs 0 (omega arith)
 
-pub corner-is-number : (rs : List ℕ) (a : ℕ) → a < 2 ^ length rs → cornerOf rs (setBits a) ≡ numberOf rs (digitsOf (replicate (length rs) 2) a)
-unfolding numberOf digitsOf
+pub corner-is-number : (rs : List ℕ) (a : ℕ) → a < 2 ^ length rs → cornerOf rs (setBits a) ≡ positionalValue rs (digitsOf (replicate (length rs) 2) a)
+unfolding positionalValue digitsOf
 corner-is-number [] a h =
     let e : a ≡ 0 = omega arith in
     ap (λ (b : ℕ). cornerOf [] (setBits b)) e ∙ corner-none []

@@ -11,7 +11,7 @@ use Prim.Native.Nat.{ℕ, zero, suc, _+_, _*_, _/_, _%_, _<_, _≤_, suc-le-suc}
 use native.Mathlib.Nat.{zero-add, zero-lt-suc, not-suc-le-zero, le-of-suc-le-suc, suc-inj, suc-ne-zero, mul-le-mul-left, mul-comm, mod-lt, mod-eq-of-lt, mod-add-div, div-eq-of-lt, div-lt-iff-lt-mul, add-mul-mod-self-left, add-mul-div-left}
 use native.Mathlib.Omega.{arith}
 use lib.ListN.{length, getD}
-use Rattle.positional.specs.Positional.{product, Digits, numberOf, digitsOf}
+use Rattle.positional.specs.Positional.{product, Digits, positionalValue, digitsOf}
 
 -- ---- digits by their positions
 
@@ -35,8 +35,8 @@ digits-by-position (r ∷ rs) (d ∷ ds) e f = (f 0 (zero-lt-suc (length rs)), d
 
 -- ---- the two ways
 
-pub number-below : (rs ds : List ℕ) → Digits rs ds → numberOf rs ds < product rs
-unfolding product numberOf
+pub number-below : (rs ds : List ℕ) → Digits rs ds → positionalValue rs ds < product rs
+unfolding product positionalValue
 number-below [] [] g = omega arith
 number-below [] (d ∷ ds) g = absurd g
 number-below (r ∷ rs) [] g = absurd g
@@ -56,8 +56,8 @@ unfolding product digitsOf
 digits-good [] x h = tt
 digits-good (r ∷ rs) x h = (mod-lt x (divisor-pos r (product rs) x h), digits-good rs (x / r) (quotient-below r (product rs) x h))
 
-pub number-of-digits : (rs : List ℕ) (x : ℕ) → x < product rs → numberOf rs (digitsOf rs x) ≡ x
-unfolding product numberOf digitsOf
+pub number-of-digits : (rs : List ℕ) (x : ℕ) → x < product rs → positionalValue rs (digitsOf rs x) ≡ x
+unfolding product positionalValue digitsOf
 number-of-digits [] x h = omega arith
 number-of-digits (r ∷ rs) x h =
     ap (λ (y : ℕ). x % r + r * y) (number-of-digits rs (x / r) (quotient-below r (product rs) x h)) ∙ mod-add-div x r
@@ -69,10 +69,10 @@ lowest-digit r d n h = add-mul-mod-self-left d r n ∙ mod-eq-of-lt h
 pub upper-digits : (r d n : ℕ) → d < r → (d + r * n) / r ≡ n
 upper-digits r d n h = add-mul-div-left d n (omega arith) ∙ ap (λ (q : ℕ). q + n) (div-eq-of-lt h) ∙ zero-add n
 
-pub digits-of-number : (rs ds : List ℕ) → Digits rs ds → digitsOf rs (numberOf rs ds) ≡ ds
-unfolding numberOf digitsOf
+pub digits-of-number : (rs ds : List ℕ) → Digits rs ds → digitsOf rs (positionalValue rs ds) ≡ ds
+unfolding positionalValue digitsOf
 digits-of-number [] [] g = refl
 digits-of-number [] (d ∷ ds) g = absurd g
 digits-of-number (r ∷ rs) [] g = absurd g
 digits-of-number (r ∷ rs) (d ∷ ds) g =
-    ap₂ _∷_ (lowest-digit r d (numberOf rs ds) (g .0)) (ap (digitsOf rs) (upper-digits r d (numberOf rs ds) (g .0)) ∙ digits-of-number rs ds (g .1))
+    ap₂ _∷_ (lowest-digit r d (positionalValue rs ds) (g .0)) (ap (digitsOf rs) (upper-digits r d (positionalValue rs ds) (g .0)) ∙ digits-of-number rs ds (g .1))

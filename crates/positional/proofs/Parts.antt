@@ -13,7 +13,7 @@ use native.Mathlib.Nat.{not-suc-le-zero, le-of-suc-le-suc, mul-le-mul-right, div
 use native.Mathlib.Omega.{arith}
 use lib.ListN.{length, getD, take, drop, take-append-drop}
 use Rattle.words.specs.Without.{without}
-use Rattle.positional.specs.Positional.{product, stride, Digits, numberOf, digitsOf}
+use Rattle.positional.specs.Positional.{product, stride, Digits, positionalValue, digitsOf}
 use Rattle.positional.proofs.Digits.{digits-long, number-below, lowest-digit, upper-digits}
 
 pub digits-append : (rs ds ss es : List ℕ) → Digits rs ds → Digits ss es → Digits (rs ++ ss) (ds ++ es)
@@ -22,8 +22,8 @@ digits-append [] (d ∷ ds) ss es g k = absurd g
 digits-append (r ∷ rs) [] ss es g k = absurd g
 digits-append (r ∷ rs) (d ∷ ds) ss es g k = (g .0, digits-append rs ds ss es (g .1) k)
 
-pub number-append : (rs ds ss es : List ℕ) → length ds ≡ length rs → numberOf (rs ++ ss) (ds ++ es) ≡ numberOf rs ds + product rs * numberOf ss es
-unfolding product numberOf
+pub number-append : (rs ds ss es : List ℕ) → length ds ≡ length rs → positionalValue (rs ++ ss) (ds ++ es) ≡ positionalValue rs ds + product rs * positionalValue ss es
+unfolding product positionalValue
 number-append [] [] ss es e = omega arith
 number-append [] (d ∷ ds) ss es e = absurd (omega arith)
 number-append (r ∷ rs) [] ss es e = absurd (omega arith)
@@ -45,26 +45,26 @@ digits-drop [] (d ∷ ds) (suc i) g = absurd g
 digits-drop (r ∷ rs) [] (suc i) g = absurd g
 digits-drop (r ∷ rs) (d ∷ ds) (suc i) g = digits-drop rs ds i (g .1)
 
-pub number-split : (rs ds : List ℕ) (i : ℕ) → Digits rs ds → numberOf rs ds ≡ numberOf (take i rs) (take i ds) + stride rs i * numberOf (drop i rs) (drop i ds)
+pub number-split : (rs ds : List ℕ) (i : ℕ) → Digits rs ds → positionalValue rs ds ≡ positionalValue (take i rs) (take i ds) + stride rs i * positionalValue (drop i rs) (drop i ds)
 number-split rs ds i g =
-    sym (ap₂ numberOf (take-append-drop i rs) (take-append-drop i ds))
+    sym (ap₂ positionalValue (take-append-drop i rs) (take-append-drop i ds))
     ∙ number-append (take i rs) (take i ds) (drop i rs) (drop i ds) (digits-long (take i rs) (take i ds) (digits-take rs ds i g))
 
-pub number-low : (rs ds : List ℕ) (i : ℕ) → Digits rs ds → numberOf rs ds % stride rs i ≡ numberOf (take i rs) (take i ds)
+pub number-low : (rs ds : List ℕ) (i : ℕ) → Digits rs ds → positionalValue rs ds % stride rs i ≡ positionalValue (take i rs) (take i ds)
 number-low rs ds i g =
     ap (λ (x : ℕ). x % stride rs i) (number-split rs ds i g)
-    ∙ lowest-digit (stride rs i) (numberOf (take i rs) (take i ds)) (numberOf (drop i rs) (drop i ds)) (number-below (take i rs) (take i ds) (digits-take rs ds i g))
+    ∙ lowest-digit (stride rs i) (positionalValue (take i rs) (take i ds)) (positionalValue (drop i rs) (drop i ds)) (number-below (take i rs) (take i ds) (digits-take rs ds i g))
 
-pub number-high : (rs ds : List ℕ) (i : ℕ) → Digits rs ds → numberOf rs ds / stride rs i ≡ numberOf (drop i rs) (drop i ds)
+pub number-high : (rs ds : List ℕ) (i : ℕ) → Digits rs ds → positionalValue rs ds / stride rs i ≡ positionalValue (drop i rs) (drop i ds)
 number-high rs ds i g =
     ap (λ (x : ℕ). x / stride rs i) (number-split rs ds i g)
-    ∙ upper-digits (stride rs i) (numberOf (take i rs) (take i ds)) (numberOf (drop i rs) (drop i ds)) (number-below (take i rs) (take i ds) (digits-take rs ds i g))
+    ∙ upper-digits (stride rs i) (positionalValue (take i rs) (take i ds)) (positionalValue (drop i rs) (drop i ds)) (number-below (take i rs) (take i ds) (digits-take rs ds i g))
 
-pub number-high-least : (rs ds : List ℕ) (i : ℕ) → Digits rs ds → numberOf (drop i rs) (drop i ds) ≤ numberOf rs ds
+pub number-high-least : (rs ds : List ℕ) (i : ℕ) → Digits rs ds → positionalValue (drop i rs) (drop i ds) ≤ positionalValue rs ds
 number-high-least rs ds i g =
-    let l : numberOf (take i rs) (take i ds) < stride rs i = number-below (take i rs) (take i ds) (digits-take rs ds i g) in
+    let l : positionalValue (take i rs) (take i ds) < stride rs i = number-below (take i rs) (take i ds) (digits-take rs ds i g) in
     let k : 1 ≤ stride rs i = omega arith in
-    omega (arith, number-split rs ds i g, mul-le-mul-right (numberOf (drop i rs) (drop i ds)) k)
+    omega (arith, number-split rs ds i g, mul-le-mul-right (positionalValue (drop i rs) (drop i ds)) k)
 
 pub digits-of-long : (rs : List ℕ) (x : ℕ) → length (digitsOf rs x) ≡ length rs
 unfolding digitsOf
@@ -80,7 +80,7 @@ digit-is (r ∷ rs) x (suc i) h = digit-is rs (x / r) i (le-of-suc-le-suc h) ∙
 -- ---- a position taken out
 
 pub number-without : (rs ds : List ℕ) (i : ℕ) → Digits rs ds
-    → numberOf (without i rs) (without i ds) ≡ numberOf rs ds % stride rs i + stride rs i * (numberOf rs ds / stride rs (suc i))
+    → positionalValue (without i rs) (without i ds) ≡ positionalValue rs ds % stride rs i + stride rs i * (positionalValue rs ds / stride rs (suc i))
 number-without rs ds i g =
     number-append (take i rs) (take i ds) (drop (suc i) rs) (drop (suc i) ds) (digits-long (take i rs) (take i ds) (digits-take rs ds i g))
     ∙ sym (ap₂ (λ (l h : ℕ). l + stride rs i * h) (number-low rs ds i g) (number-high rs ds (suc i) g))

@@ -14,7 +14,7 @@ use native.Mathlib.Nat.{not-suc-le-zero, le-of-suc-le-suc, zero-lt-suc, lt-of-mu
 use native.Mathlib.Omega.{arith}
 use lib.ListN.{length, getD, take, drop, take-append-drop}
 use lib.Seq.{take-all, take-suc}
-use Rattle.positional.specs.Positional.{product, stride, valuesOf, strides, numberOf, weighed}
+use Rattle.positional.specs.Positional.{product, stride, valuesBelow, strides, positionalValue, weighed}
 
 pub product-append : (rs ss : List ℕ) → product (rs ++ ss) ≡ product rs * product ss
 unfolding product
@@ -47,11 +47,11 @@ zero-radix rs i h e = go (product rs) refl
 
 -- ---- the list of the strides
 
-pub values-long : (f : ℕ → ℕ) (n : ℕ) → length (valuesOf f n) ≡ n
+pub values-long : (f : ℕ → ℕ) (n : ℕ) → length (valuesBelow f n) ≡ n
 values-long f zero = refl
 values-long f (suc n) = ap suc (values-long (λ i. f (suc i)) n)
 
-pub values-at : (f : ℕ → ℕ) (n i : ℕ) → i < n → getD (valuesOf f n) i 0 ≡ f i
+pub values-at : (f : ℕ → ℕ) (n i : ℕ) → i < n → getD (valuesBelow f n) i 0 ≡ f i
 values-at f zero i h = absurd (not-suc-le-zero h)
 values-at f (suc n) zero h = refl
 values-at f (suc n) (suc i) h = values-at (λ j. f (suc j)) n i (le-of-suc-le-suc h)
@@ -65,13 +65,13 @@ strides-at rs i h = values-at (stride rs) (length rs) i h
 -- ---- a number by the strides
 
 -- where the strides start at s
-weighed-from : (rs ds : List ℕ) (s : ℕ) (f : ℕ → ℕ) → ((i : ℕ) → f i ≡ s * stride rs i) → weighed ds (valuesOf f (length rs)) ≡ s * numberOf rs ds
-unfolding product numberOf
+weighed-from : (rs ds : List ℕ) (s : ℕ) (f : ℕ → ℕ) → ((i : ℕ) → f i ≡ s * stride rs i) → weighed ds (valuesBelow f (length rs)) ≡ s * positionalValue rs ds
+unfolding product positionalValue
 weighed-from [] [] s f e = omega arith
 weighed-from [] (d ∷ ds) s f e = omega arith
 weighed-from (r ∷ rs) [] s f e = omega arith
 weighed-from (r ∷ rs) (d ∷ ds) s f e =
     omega (arith, ap (λ (x : ℕ). d * x) (e 0), weighed-from rs ds (s * r) (λ i. f (suc i)) (λ i. omega (arith, e (suc i))))
 
-pub number-is-weighed : (rs ds : List ℕ) → numberOf rs ds ≡ weighed ds (strides rs)
-number-is-weighed rs ds = sym (weighed-from rs ds 1 (stride rs) (λ i. sym (one-mul (stride rs i))) ∙ one-mul (numberOf rs ds))
+pub number-is-weighed : (rs ds : List ℕ) → positionalValue rs ds ≡ weighed ds (strides rs)
+number-is-weighed rs ds = sym (weighed-from rs ds 1 (stride rs) (λ i. sym (one-mul (stride rs i))) ∙ one-mul (positionalValue rs ds))

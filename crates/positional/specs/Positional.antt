@@ -5,7 +5,7 @@
 --   strides rs    the stride of each position
 --   cornerOf rs axes    the sum of the strides of the chosen positions
 --   Digits rs ds    as many digits as radices, each below its radix
---   numberOf rs ds    the number that has the digits ds: d0 + r0 * (d1 + r1 * ..)
+--   positionalValue rs ds    the number that has the digits ds: d0 + r0 * (d1 + r1 * ..)
 --   weighed ds ss    the sum of the digits, each times the number at its position in ss
 --   digitsOf rs x    the digits of x: x % r0, and then those of x / r0
 use mathlib.Core.List.{List, [], _∷_}
@@ -20,12 +20,12 @@ abbrev pub stride : List ℕ → ℕ → ℕ
 stride rs i = product (take i rs)
 
 -- the values of f at 0 .. n - 1
-abbrev pub valuesOf : (ℕ → ℕ) → ℕ → List ℕ
-valuesOf f zero = []
-valuesOf f (suc n) = f zero ∷ valuesOf (λ i. f (suc i)) n
+abbrev pub valuesBelow : (ℕ → ℕ) → ℕ → List ℕ
+valuesBelow f zero = []
+valuesBelow f (suc n) = f zero ∷ valuesBelow (λ i. f (suc i)) n
 
 abbrev pub strides : List ℕ → List ℕ
-strides rs = valuesOf (stride rs) (length rs)
+strides rs = valuesBelow (stride rs) (length rs)
 
 unfoldable pub cornerOf : List ℕ → List ℕ → ℕ
 cornerOf rs [] = 0
@@ -37,10 +37,10 @@ Digits [] (d ∷ ds) = ⊥
 Digits (r ∷ rs) [] = ⊥
 Digits (r ∷ rs) (d ∷ ds) = (d < r) × Digits rs ds
 
-unfoldable pub numberOf : List ℕ → List ℕ → ℕ
-numberOf [] ds = 0
-numberOf (r ∷ rs) [] = 0
-numberOf (r ∷ rs) (d ∷ ds) = d + r * numberOf rs ds
+unfoldable pub positionalValue : List ℕ → List ℕ → ℕ
+positionalValue [] ds = 0
+positionalValue (r ∷ rs) [] = 0
+positionalValue (r ∷ rs) (d ∷ ds) = d + r * positionalValue rs ds
 
 abbrev pub weighed : List ℕ → List ℕ → ℕ
 weighed [] ss = 0

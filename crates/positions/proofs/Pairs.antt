@@ -21,7 +21,7 @@ use Rattle.words.specs.HowMany.{HowMany}
 use Rattle.words.specs.Inversions.{smallerIn, multiplicity, crossings, equalPairs, inversions}
 use Rattle.merging.specs.Sorting.{repeats}
 use Rattle.merging.proofs.Totals.{total, total-same, multiplicity-is-total, smaller-is-total, crossings-are-total, equal-pairs-are-total}
-use Rattle.positions.specs.Pairs.{Holds, Inversion, Repetition, Crossing, Meeting}
+use Rattle.positions.specs.Pairs.{HoldsAt, Inversion, Repetition, Crossing, Meeting}
 use Rattle.positions.proofs.Parts.{none-is-zero, zero-is-none, decided-is-one-or-none, same-is-how-many, split-is-how-many}
 
 -- ---- the positions that pass a test
@@ -169,10 +169,10 @@ larger x y = ltb y x
 abbrev equal : ℕ → ℕ → Bool
 equal x y = eqb y x
 
-pub multiplicity-is-how-many-positions : (x : ℕ) (w : List ℕ) → HowMany (Holds w x) (multiplicity x w)
+pub multiplicity-is-how-many-positions : (x : ℕ) (w : List ℕ) → HowMany (HoldsAt w x) (multiplicity x w)
 multiplicity-is-how-many-positions x w =
-    subst (HowMany (Holds w x)) (sym (multiplicity-is-total x w))
-    (same-is-how-many (Hit (equal x) w) (Holds w x) _ (λ i. (
+    subst (HowMany (HoldsAt w x)) (sym (multiplicity-is-total x w))
+    (same-is-how-many (Hit (equal x) w) (HoldsAt w x) _ (λ i. (
       λ h. let r = hit-at (equal x) w i .0 h in record { within = r .0; equal = eqb-true (getD w i 0) x (r .1) },
       λ h. hit-at (equal x) w i .1 (h .within, eq-eqb (getD w i 0) x (h .equal)),
     )) (hits-is-how-many (equal x) w))

@@ -1,5 +1,5 @@
 -- What stands at the positions of words. Assumes nothing.
---   Holds w x i    position i of w holds the symbol x
+--   HoldsAt w x i    position i of w holds the symbol x
 --   Inversion w p    p is a pair of positions i < j of w, and the symbol at i is the larger
 --   Repetition w p    p is a pair of positions i < j of w that hold one symbol
 --   Crossing u v p    p is a position of u and one of v, and the symbol of u is the larger
@@ -9,7 +9,7 @@ use mathlib.Core.List.{List}
 use Prim.Native.Nat.{ℕ, _<_}
 use lib.ListN.{length, getD}
 
-pub record Holds (w : List ℕ) (x i : ℕ) : Type 0 where
+pub record HoldsAt (w : List ℕ) (x i : ℕ) : Type 0 where
   pub within : i < length w
   pub equal : getD w i 0 ≡ x
 

@@ -20,14 +20,14 @@ use Rattle.answers.proofs.Terms.{word-of-index}
 use Rattle.merging.specs.Sorting.{merged}
 use Rattle.deletion.specs.Absent.{absentFrom}
 use Rattle.permutation.specs.Record.{zerosOnly}
-use Rattle.permutation.specs.Rules.{isGood, taken}
+use Rattle.permutation.specs.Rules.{isGood, takenArrangement}
 use Rattle.permutation_order.specs.Rules.{numbered}
 use Rattle.arrangements.specs.Permutation.{isPermutation}
 use Rattle.arrangements.specs.Rank.{rankBelow}
-use Rattle.positional.specs.Positional.{product, cornerOf, numberOf, digitsOf}
+use Rattle.positional.specs.Positional.{product, cornerOf, positionalValue, digitsOf}
 use Rattle.monotone_walk.specs.Rules.{successorSays}
 use Rattle.deletion.specs.Rules.{deleteSays}
-use Rattle.promises.specs.Checked.{AllHold, none, _and_, bits, setOf, removed, cases}
+use Rattle.promises.specs.Checked.{AllConfirmed, none, _and_, bits, setOf, removed, cases}
 
 -- ---- sets with a high symbol
 
@@ -46,9 +46,9 @@ without-63 = simp (word-of-index Forbidden 64 (0 ∷ 2 ∷ 63 ∷ []) (omega ari
 -- ---- the list
 
 -- a line for each point
-pub hand-checked : AllHold cases
+pub hand-checked : AllConfirmed cases
 unfolding choose rankFrom greatest fill nextFrom reset bitsOf onesFrom smallerIn multiplicity crossings equalPairs inversions merged holds reaches absentFrom
-    taken numbered isGood zerosOnly isPermutation rankBelow factorial product cornerOf numberOf digitsOf
+    takenArrangement numbered isGood zerosOnly isPermutation rankBelow factorial product cornerOf positionalValue digitsOf
 hand-checked =
     refl and refl
     and refl and refl and refl

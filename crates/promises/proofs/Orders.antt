@@ -17,12 +17,12 @@ use Rattle.merging.specs.Sorting.{insert, sorted, repeats}
 use Rattle.deletion.specs.Multiplicities.{ceilingOf, stabilizerBelow}
 use Rattle.deletion.specs.Rules.{stabilizerSays}
 use Rattle.permutation.specs.Record.{zerosOnly}
-use Rattle.permutation.specs.Rules.{isGood, taken}
+use Rattle.permutation.specs.Rules.{isGood, takenArrangement}
 use Rattle.permutation_order.specs.Rules.{numbered}
 use Rattle.arrangements.specs.Permutation.{isPermutation}
-use Rattle.positional.specs.Positional.{product, cornerOf, numberOf, digitsOf}
+use Rattle.positional.specs.Positional.{product, cornerOf, positionalValue, digitsOf}
 use Rattle.composition.specs.Exponents.{sumOf, added}
-use Rattle.promises.specs.Checked.{AllHold, none, _and_}
+use Rattle.promises.specs.Checked.{AllConfirmed, none, _and_}
 use Rattle.promises.specs.Orders.{zeros, orders}
 
 -- ---- twenty-one equal symbols
@@ -41,8 +41,8 @@ equal-symbols-big = simp (word-of-index Allowed 1 (zeros 21) (rises-is-monotone 
 
 -- ---- the list
 
-pub orders-hold : AllHold orders
-unfolding choose factorial bitsOf onesFrom smallerIn multiplicity crossings equalPairs inversions holds reaches taken numbered isGood zerosOnly isPermutation product cornerOf numberOf
+pub orders-hold : AllConfirmed orders
+unfolding choose factorial bitsOf onesFrom smallerIn multiplicity crossings equalPairs inversions holds reaches takenArrangement numbered isGood zerosOnly isPermutation product cornerOf positionalValue
     digitsOf insert sorted repeats ceilingOf stabilizerBelow sumOf added
 orders-hold =
     refl and refl and refl and refl and refl and refl and refl and refl

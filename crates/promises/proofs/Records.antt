@@ -31,7 +31,7 @@ use Rattle.answers.proofs.Says.{gives-same, gives-no-refusal, passed, passed-wi
 use Rattle.answers.proofs.Terms.{word-of-index, index-of-word, word-monotone}
 use Rattle.packing.specs.Checks.{rises, breakAt, lastShifted}
 use Rattle.packing.proofs.Checks.{rises-is-monotone}
-use Rattle.taking.specs.Taken.{top, Accepted}
+use Rattle.taking.specs.Taken.{shiftedAlphabetOf, Accepted}
 use Rattle.taking.proofs.Accepted.{accepted-is-a-word, index-accepted, taken-accepted, taken-gives}
 use Rattle.monotone_walk.specs.declared.Walk.{Walk}
 use Rattle.monotone_walk.specs.declared.Current.{Current}
@@ -45,7 +45,7 @@ use Rattle.monotone_walk.specs.Walks.{Moved, current, stepFrom, stepSays}
 use Rattle.monotone_count.proofs.Rules.{Counted, count-given}
 use Rattle.monotone.proofs.Rules.{checked-gives}
 use Rattle.monotone_unrank.proofs.Passing.{unrank-accepted}
-use Rattle.promises.proofs.Walks.{pos-of-ne}
+use Rattle.promises.proofs.Walks.{positive-of-not-zero}
 use Rattle.promises.proofs.Terms.{word-ranked, Succeeds, successor-given}
 
 -- ---- a record and its word
@@ -65,7 +65,7 @@ by-word x a = taken-accepted x (gives (rankOf (x .family) (wordOf x))) a
 pub rank-of-an-index-is-that-of-its-word : (x : Index) → Accepted x → rankOfSays x ≡ rankSays (x .family) (wordOf x)
 rank-of-an-index-is-that-of-its-word x a =
     let h : Word (x .family) (x .alphabet) (length (wordOf x)) (wordOf x) = accepted-is-a-word x .0 a .1 in
-    let k : length (wordOf x) ≤ top x = word-short (x .family) (x .alphabet) (length (wordOf x)) (wordOf x) h in
+    let k : length (wordOf x) ≤ shiftedAlphabetOf x = word-short (x .family) (x .alphabet) (length (wordOf x)) (wordOf x) h in
     by-word x a
     ∙ sym (checked-gives (x .family) (wordOf x) (rankOf (x .family) (wordOf x)) (word-ranked (x .family) (x .alphabet) (length (wordOf x)) (wordOf x) h (omega (arith, a .narrow)) (a .narrow)))
 
@@ -125,7 +125,7 @@ started-accepted F n k s x e f = go (then-gave (countSays F n k) (λ c. gives (b
     on c d true q g = absurd (let z : _≡_ {A = ℕ} 0 1 = cc in omega arith)
     on c d false q g =
         let is : indexOf F n (first F k) ≡ x = cc in (
-          subst Accepted is (index-accepted F n k (first F k) (d .alphabet) (first-is-a-word F n k (omega (arith, d .is, pos-of-ne c (eqb-false c 0 q))))),
+          subst Accepted is (index-accepted F n k (first F k) (d .alphabet) (first-is-a-word F n k (omega (arith, d .is, positive-of-not-zero c (eqb-false c 0 q))))),
           ap (λ (z : Index). z .alphabet) (sym is),
         )
 

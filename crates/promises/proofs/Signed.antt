@@ -31,7 +31,7 @@ use Rattle.answers.proofs.Terms.{word-of-index, index-of-word, word-monotone}
 use Rattle.merging.specs.Sorting.{Rearranged, merged}
 use Rattle.merging.proofs.Sorting.{sorted-is-the-one}
 use Rattle.merging.proofs.Merging.{merged-is-sorted, merged-long}
-use Rattle.algebra.specs.Rules.{forbids, signIn, mergedSays, mergeSays}
+use Rattle.algebra.specs.Rules.{forbids, signIn, mergedWordsSays, mergeSays}
 use Rattle.algebra.proofs.Promises.{by-words}
 use Rattle.deletion.specs.Rules.{Removed, removedSays, deleteSays}
 use Rattle.deletion.proofs.Rules.{Gone, delete-given}
@@ -81,7 +81,7 @@ deleting-and-merging-back x p r e =
     ap (max (x .alphabet)) (g .alphabet) ∙ omega (arith, max-le (le-refl (x .alphabet)) (le-refl (x .alphabet)), le-max-left (x .alphabet) (x .alphabet)) in
     let signs : signIn (x .family) (crossings (r .symbol ∷ []) (wordOf (r .index))) ≡ r .sign = sign (x .family) refl n in
     by-words (indexOf (x .family) (x .alphabet) (r .symbol ∷ [])) (r .index) single (deletion-accepted x p r e) (g .family)
-    ∙ ap₂ (λ (k : ℕ) (u : List ℕ). mergedSays (x .family) k u (wordOf (r .index))) larger one
+    ∙ ap₂ (λ (k : ℕ) (u : List ℕ). mergedWordsSays (x .family) k u (wordOf (r .index))) larger one
     ∙ simp (apart, narrow, whole, signs, index-of-word x)
   where
     sign : (G : Family) → x .family ≡ G → Monotone G (wordOf (r .index)) → signIn G (crossings (r .symbol ∷ []) (wordOf (r .index))) ≡ r .sign

@@ -54,13 +54,13 @@ use Rattle.monotone_count.specs.Rules.{countSays, walkSays}
 use Rattle.monotone_rank.specs.Rules.{rankSays}
 use Rattle.monotone_unrank.specs.Rules.{unrankSays}
 use Rattle.monotone_walk.specs.Rules.{nextSays, successorSays}
-use Rattle.taking.specs.Taken.{top, Accepted}
+use Rattle.taking.specs.Taken.{shiftedAlphabetOf, Accepted}
 use Rattle.taking.proofs.Accepted.{accepted-is-a-word, taken-accepted, taken-gives}
 use Rattle.monotone_count.proofs.Rules.{Counted, count-given}
 use Rattle.monotone_unrank.proofs.Rules.{Unranked, unrank-given, unrank-gives}
 use Rattle.monotone.proofs.Rules.{Ranked, checked-given, checked-gives}
 use Rattle.promises.specs.Listing.{listing, Lists, sumBelow}
-use Rattle.promises.proofs.Walks.{pos-of-ne, Standing, walk-stands, walk-lists-by-rank}
+use Rattle.promises.proofs.Walks.{positive-of-not-zero, Standing, walk-stands, walk-lists-by-rank}
 use Rattle.promises.proofs.From.{from, from-long, from-at, in-from, from-in, from-distinct}
 
 -- ---- the count
@@ -149,7 +149,7 @@ successor-given x y e =
     let q = passed (reaches (x .alphabet) (next (x .family) (wordOf x))) 4 (gives up) y (p .1) in
     record {
       taken = a .0;
-      some = pos-of-ne (length (wordOf x)) (eqb-false (length (wordOf x)) 0 (p .0));
+      some = positive-of-not-zero (length (wordOf x)) (eqb-false (length (wordOf x)) 0 (p .0));
       over = reaches-not (x .alphabet) (next (x .family) (wordOf x)) .0 (q .0);
       is = gives-same up y (q .1);
     }
@@ -200,7 +200,7 @@ successor-refuses-exactly-at-the-last x a = (to, back)
     go : (w : List ℕ) → Word (x .family) (x .alphabet) (length (wordOf x)) w → ColexLt (wordOf x) w
         → ((eqb (length (wordOf x)) 0 ≡ true) × (_≡_ {A = ℕ} 4 4)) ⊎ ((eqb (length (wordOf x)) 0 ≡ false) × (refusedIf past 4 (gives up) ≡ refuses 4)) → ⊥
     go w d c (inl p) = omega (arith, eqb-true (length (wordOf x)) 0 (p .0), c .within)
-    go w d c (inr p) = on (pos-of-ne (length (wordOf x)) (eqb-false (length (wordOf x)) 0 (p .0))) w d c (stopped past 4 (gives up) 4 (p .1))
+    go w d c (inr p) = on (positive-of-not-zero (length (wordOf x)) (eqb-false (length (wordOf x)) 0 (p .0))) w d c (stopped past 4 (gives up) 4 (p .1))
 
     to : successorSays x ≡ refuses 4 → (w : List ℕ) → Word (x .family) (x .alphabet) (length (wordOf x)) w → ColexLt (wordOf x) w → ⊥
     to e w d c = go w d c (stopped (eqb (length (wordOf x)) 0) 4 (refusedIf past 4 (gives up)) 4 (sym (taken-accepted x (nextSays x) a) ∙ e))
@@ -213,7 +213,7 @@ successor-refuses-exactly-at-the-last x a = (to, back)
         absurd
         (none (next (x .family) (wordOf x))
         (record { long = next-long (x .family) (wordOf x); monotone = next-monotone (x .family) (wordOf x) (word-monotone x); below = reaches-not (x .alphabet) (next (x .family) (wordOf x)) .0 q })
-        (next-is-later (x .family) (wordOf x) (pos-of-ne (length (wordOf x)) (eqb-false (length (wordOf x)) 0 p)) (word-monotone x)))
+        (next-is-later (x .family) (wordOf x) (positive-of-not-zero (length (wordOf x)) (eqb-false (length (wordOf x)) 0 p)) (word-monotone x)))
 
     back : ((w : List ℕ) → Word (x .family) (x .alphabet) (length (wordOf x)) w → ColexLt (wordOf x) w → ⊥) → successorSays x ≡ refuses 4
     back none =
@@ -221,7 +221,7 @@ successor-refuses-exactly-at-the-last x a = (to, back)
 
 -- the same as bits (02 §8): k ones at the top of a digits
 pub successor-refuses-exactly-at-the-top-bits : (x : Index) → Accepted x
-    → (successorSays x ≡ refuses 4) ↔ (x .bits ≡ (2 ^ length (wordOf x) - 1) * 2 ^ (top x - length (wordOf x)))
+    → (successorSays x ≡ refuses 4) ↔ (x .bits ≡ (2 ^ length (wordOf x) - 1) * 2 ^ (shiftedAlphabetOf x - length (wordOf x)))
 successor-refuses-exactly-at-the-top-bits x a = (
   λ e. sym (same (last-has-nothing-after F n k (wordOf x) word .0 (successor-refuses-exactly-at-the-last x a .0 e))) ∙ bits,
   λ e. successor-refuses-exactly-at-the-last x a .1 (last-has-nothing-after F n k (wordOf x) word .1 (back (e ∙ sym bits))),
@@ -239,7 +239,7 @@ successor-refuses-exactly-at-the-top-bits x a = (
     word : Word F n k (wordOf x)
     word = accepted-is-a-word x .0 a .1
 
-    bits : bitsOf (shifted F (last F n k)) ≡ (2 ^ k - 1) * 2 ^ (top x - k)
+    bits : bitsOf (shifted F (last F n k)) ≡ (2 ^ k - 1) * 2 ^ (shiftedAlphabetOf x - k)
     bits = last-bits F n k (word-short F n k (wordOf x) word)
 
     own : bitsOf (shifted F (wordOf x)) ≡ x .bits

@@ -1,5 +1,5 @@
 -- A walk goes through the words in the order of their ranks. Assumes nothing.
---   pos-of-ne    what is not 0 is above 0
+--   positive-of-not-zero    what is not 0 is above 0
 --   Standing F n k c i s    the state s of a walk over c words has given i of them
 --   successor-of-unrank, successor-of-the-last    the successor of the word of a rank is that of the next rank, and of the last there is none
 --   walk-stands, step-ends    the start, and the end: after its last word a walk stands nowhere
@@ -43,9 +43,9 @@ use Rattle.monotone_count.proofs.Rules.{Counted, count-given}
 use Rattle.promises.proofs.From.{from}
 use Rattle.promises.specs.Listing.{follow, listing, stepGives}
 
-pub pos-of-ne : (a : ℕ) → (a ≡ 0 → ⊥) → 0 < a
-pos-of-ne zero h = absurd (h refl)
-pos-of-ne (suc a) h = zero-lt-suc a
+pub positive-of-not-zero : (a : ℕ) → (a ≡ 0 → ⊥) → 0 < a
+positive-of-not-zero zero h = absurd (h refl)
+positive-of-not-zero (suc a) h = zero-lt-suc a
 
 -- ---- the successor of the word of a rank
 
@@ -89,7 +89,7 @@ successor-of-the-last F n k i l h = unranked-next F n k i l (omega arith) ∙ go
     go false p true q = refl
     go false p false q =
         let m : Monotone F (unrankOf F k i) = unrank-monotone F k i in
-        let some : 0 < length (unrankOf F k i) = pos-of-ne (length (unrankOf F k i)) (eqb-false (length (unrankOf F k i)) 0 p) in
+        let some : 0 < length (unrankOf F k i) = positive-of-not-zero (length (unrankOf F k i)) (eqb-false (length (unrankOf F k i)) 0 p) in
         let d : Word F n k (next F (unrankOf F k i)) =
         record { long = next-long F (unrankOf F k i) ∙ unrank-long F k i; monotone = next-monotone F (unrankOf F k i) m; below = reaches-not n (next F (unrankOf F k i)) .0 q } in
         absurd (omega (arith, rank-below-count F n k (next F (unrankOf F k i)) d, next-rank F (unrankOf F k i) some m, rank-of-unrank F n k i (omega arith)))

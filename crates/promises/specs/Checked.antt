@@ -1,10 +1,10 @@
 -- The numbers of document 01 that were checked by hand ("Numbers checked by hand"), as one list of cases under one claim. Assumes nothing.
 --   Case    the case s is a: what a call's definition says of its arguments, and what the document says
---   Holds c, AllHold cs    the two are equal; they are so in every case of the list
+--   Confirmed c, AllConfirmed cs    the two are equal; they are so in every case of the list
 --   over F    the alphabet that the index cases are read over (02 §8): 64 for Forbidden, 3 for Allowed
 --   bits F a, setOf w, term F w    the index of family F whose bits are a, the Forbidden index of a set of symbols, and that of a word
 --   signed s x, removed s a x    a sign and an index; a sign, a symbol and an index
---   digits n k r, taken a x    the digit word of radix n, degree k and rank r; a symbol and a digit word
+--   digits n k r, takenOut a x    the digit word of radix n, degree k and rank r; a symbol and a digit word
 --   cases    the twelve points of the document, line by line
 -- Each call is taken by the definition that its contract cites; an output has as many places as are written. The theorem is `hand-checked`.
 use mathlib.Core.Path.{_≡_}
@@ -16,7 +16,7 @@ use Rattle.words.specs.Bits.{bitsOf}
 use Rattle.answers.specs.declared.Index.{Index}
 use Rattle.answers.specs.declared.Sign.{Sign}
 use Rattle.answers.specs.declared.Sign.the-variants.{Plus, Minus}
-use Rattle.answers.specs.Says.{Says, refuses, gives, Term}
+use Rattle.answers.specs.Says.{Says, refuses, gives, SignedTerm}
 use Rattle.answers.specs.Terms.{indexOf}
 use Rattle.monotone_count.specs.Rules.{countSays}
 use Rattle.monotone_rank.specs.Rules.{rankSays}
@@ -37,13 +37,13 @@ infix 68 _is_
 pub data Case : Type 1 where
   _is_ : {A : Type 0} → Says A → Says A → Case
 
-abbrev pub Holds : Case → Type 0
-Holds (s is a) = s ≡ a
+abbrev pub Confirmed : Case → Type 0
+Confirmed (s is a) = s ≡ a
 
 infixr 4 _and_
-pub data AllHold : List Case → Type 1 where
-  none : AllHold []
-  _and_ : {c : Case} {cs : List Case} → Holds c → AllHold cs → AllHold (c ∷ cs)
+pub data AllConfirmed : List Case → Type 1 where
+  none : AllConfirmed []
+  _and_ : {c : Case} {cs : List Case} → Confirmed c → AllConfirmed cs → AllConfirmed (c ∷ cs)
 
 -- ---- values of several parts
 
@@ -60,7 +60,7 @@ term F w = indexOf F (over F) w
 abbrev pub setOf : List ℕ → Index
 setOf w = term Forbidden w
 
-abbrev pub signed : Sign → Index → Term
+abbrev pub signed : Sign → Index → SignedTerm
 signed s x = record { sign = s; index = x }
 
 abbrev pub removed : Sign → ℕ → Index → Removed
@@ -69,8 +69,8 @@ removed s a x = record { sign = s; symbol = a; index = x }
 abbrev pub digits : ℕ → ℕ → ℕ → DigitWord
 digits n k r = record { radix = n; degree = k; rank = r }
 
-abbrev pub taken : ℕ → DigitWord → digit.Taken
-taken a x = record { symbol = a; left = x }
+abbrev pub takenOut : ℕ → DigitWord → digit.TakenOut
+takenOut a x = record { symbol = a; left = x }
 
 -- ---- the twelve points
 
@@ -105,17 +105,17 @@ cases =
     -- 8. complement of {0,2} in 4: minus, {1,3}
     ∷ complementSays (setOf (0 ∷ 2 ∷ [])) 4 is gives (signed Minus (indexOf Forbidden 4 (1 ∷ 3 ∷ [])))
     -- 9. permutation ranks: (2,1,0) 0; (0,2,1) 3; (0,1,2) 5; empty 0
-    ∷ permutation.rankSays (recordOf (2 ∷ 1 ∷ 0 ∷ [])) is gives 0
-    ∷ permutation.rankSays (recordOf (0 ∷ 2 ∷ 1 ∷ [])) is gives 3
-    ∷ permutation.rankSays (recordOf (0 ∷ 1 ∷ 2 ∷ [])) is gives 5
-    ∷ permutation.rankSays (recordOf []) is gives 0
+    ∷ permutation.arrangementRankSays (recordOf (2 ∷ 1 ∷ 0 ∷ [])) is gives 0
+    ∷ permutation.arrangementRankSays (recordOf (0 ∷ 2 ∷ 1 ∷ [])) is gives 3
+    ∷ permutation.arrangementRankSays (recordOf (0 ∷ 1 ∷ 2 ∷ [])) is gives 5
+    ∷ permutation.arrangementRankSays (recordOf []) is gives 0
     -- 10. radices (2,3,4), digits (1,2,3): 23 of 24; strides 1,2,6
     ∷ shape.linearizeSays (2 ∷ 3 ∷ 4 ∷ []) (1 ∷ 2 ∷ 3 ∷ []) is gives 23
-    ∷ shape.countSays (2 ∷ 3 ∷ 4 ∷ []) is gives 24
+    ∷ shape.shapeCountSays (2 ∷ 3 ∷ 4 ∷ []) is gives 24
     ∷ stridesSays (2 ∷ 3 ∷ 4 ∷ []) 3 is gives (1 ∷ 2 ∷ 6 ∷ [])
     -- 11. radix 3 symbols (2,0,1): rank 11; delete position 1: symbol 0, rank 5
     ∷ digit.fromSymbolsSays 3 (2 ∷ 0 ∷ 1 ∷ []) is gives (digits 3 3 11)
-    ∷ digit.deleteSays (digits 3 3 11) 1 is gives (taken 0 (digits 3 2 5))
+    ∷ digit.digitDeleteSays (digits 3 3 11) 1 is gives (takenOut 0 (digits 3 2 5))
     -- 12. corner {1,2} of radices (2^63,1,1): refusal 9
     ∷ cornerSays (2 ^ 63 ∷ 1 ∷ 1 ∷ []) (bitsOf (1 ∷ 2 ∷ [])) is refuses 9
     ∷ []

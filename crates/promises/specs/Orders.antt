@@ -95,12 +95,12 @@ orders =
     ∷ signSays (recordOf (zeros 99)) is refuses 1
     ∷ composeSays (recordOf (zeros 2)) (recordOf (zeros 99)) is refuses 1
     ∷ composeSays (recordOf (zeros 2)) (recordOf (zeros 3)) is refuses 8
-    ∷ order.rankSays (recordOf (zeros 99)) is refuses 1
-    ∷ order.unrankSays 21 (2 ^ 63) is refuses 1
-    ∷ order.successorSays (recordOf (zeros 99)) is refuses 1
-    ∷ order.successorSays (recordOf (1 ∷ 1 ∷ [])) is refuses 10
+    ∷ order.arrangementRankSays (recordOf (zeros 99)) is refuses 1
+    ∷ order.arrangementUnrankSays 21 (2 ^ 63) is refuses 1
+    ∷ order.arrangementSuccessorSays (recordOf (zeros 99)) is refuses 1
+    ∷ order.arrangementSuccessorSays (recordOf (1 ∷ 1 ∷ [])) is refuses 10
     -- shapes: count 1, 9; strides 1, 9, 8; linearize 1, 8, 7, 9; delinearize 1, 9, 3, 8; corner 1, 7, 9
-    ∷ shape.countSays (all 17 (2 ^ 40)) is refuses 1
+    ∷ shape.shapeCountSays (all 17 (2 ^ 40)) is refuses 1
     ∷ stridesSays (all 17 (2 ^ 40)) 0 is refuses 1
     ∷ stridesSays (all 3 (2 ^ 40)) 0 is refuses 9
     ∷ shape.linearizeSays (all 17 2) [] is refuses 1
@@ -113,18 +113,18 @@ orders =
     ∷ cornerSays (all 17 (2 ^ 40)) 12 is refuses 1
     ∷ cornerSays (2 ^ 63 ∷ 2 ∷ 1 ∷ []) 12 is refuses 7
     -- digit words: from symbols 1, 7, 9; the word's own 1, 9, 3 ahead of the call's; concatenation: the first word's, the second's, 8, 1, 9
-    ∷ digit.countSays 2 65 is refuses 1
+    ∷ digit.digitCountSays 2 65 is refuses 1
     ∷ digit.fromSymbolsSays 2 (all 65 2) is refuses 1
     ∷ digit.fromSymbolsSays 2 (all 64 2) is refuses 7
     ∷ digit.symbolsSays (digits 2 65 0) 0 is refuses 1
     ∷ digit.symbolsSays (digits 2 64 0) 0 is refuses 9
     ∷ digit.symbolsSays (digits 2 1 2) 0 is refuses 3
     ∷ digit.symbolsSays (digits 2 1 1) 0 is refuses 8
-    ∷ digit.symbolSays (digits 2 1 2) 9 is refuses 3
-    ∷ digit.deleteSays (digits 2 1 2) 9 is refuses 3
+    ∷ digit.digitSymbolSays (digits 2 1 2) 9 is refuses 3
+    ∷ digit.digitDeleteSays (digits 2 1 2) 9 is refuses 3
     ∷ digit.multiplicitySays (digits 2 65 0) 0 is refuses 1
-    ∷ digit.stabilizerSays (digits 1 21 1) is refuses 3
-    ∷ digit.stabilizerSays (digits 1 21 0) is refuses 9
+    ∷ digit.digitStabilizerSays (digits 1 21 1) is refuses 3
+    ∷ digit.digitStabilizerSays (digits 1 21 0) is refuses 9
     ∷ digit.concatSays (digits 2 3 8) (digits 2 65 0) is refuses 3
     ∷ digit.concatSays (digits 2 3 0) (digits 3 65 0) is refuses 1
     ∷ digit.concatSays (digits 2 40 0) (digits 3 40 0) is refuses 8

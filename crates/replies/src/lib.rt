@@ -12,7 +12,7 @@ use digits::Worded;
 use monotone_walk::Current;
 use monotone_walk::Stepped;
 use monotone_walk::Walk;
-use permutation::Signs;
+use permutation::Signature;
 
 // What a request is answered with.
 pub enum Reply {
@@ -20,7 +20,7 @@ pub enum Reply {
     Bad,
     Number(Answer),
     Index(Indexed),
-    Sign(Signs),
+    Sign(Signature),
     Signed(Signed),
     Deleted(Deleted),
     Step(Stepped),
@@ -86,13 +86,13 @@ fn sign(out: &mut [u8], at: usize, s: Sign) -> usize {
 }
 
 // A sign alone, or a refusal.
-fn signs(out: &mut [u8], at: usize, a: Signs) -> usize {
+fn signs(out: &mut [u8], at: usize, a: Signature) -> usize {
     match a {
-        Signs::Is(s) => {
+        Signature::Is(s) => {
             let at = sign(out, at, s);
             text::put_byte(out, at, b'\n')
         }
-        Signs::Refused(e) => refusal(out, at, e),
+        Signature::Refused(e) => refusal(out, at, e),
     }
 }
 

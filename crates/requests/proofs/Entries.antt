@@ -13,7 +13,7 @@ use lib.Arith.{lt-of-le-ne}
 use lib.Seq.{split-at, take-append-seam, drop-append-add, take-all, getD-take}
 use Rattle.text.specs.Text.{Found}
 use Rattle.text.proofs.Found.{found-first}
-use Rattle.requests.specs.Patterns.{fits, Wants}
+use Rattle.requests.specs.Patterns.{fitsPattern, Wants}
 
 abbrev Decides : Bool → List ℕ → List ℕ → List ℕ → Type 0
 Decides r verb kinds entry = (r ≡ true → Wants verb kinds entry) × (Wants verb kinds entry → r ≡ true)
@@ -40,7 +40,7 @@ module _ (verb kinds entry : List ℕ) (e : ℕ) (f : Found entry 0 32 e) where
   all-after : after-space ≡ drop (e + 1) entry
   all-after = take-all (length entry - (e + 1)) (drop (e + 1) entry) (simp length-drop (omega arith))
 
-  pub pattern-decides : (r : Bool) → (e ≡ length entry → ⊥) → verb ≡ take (e - 0) entry → r ≡ fits after-space kinds → Decides r verb kinds entry
+  pub pattern-decides : (r : Bool) → (e ≡ length entry → ⊥) → verb ≡ take (e - 0) entry → r ≡ fitsPattern after-space kinds → Decides r verb kinds entry
   pattern-decides r d v q = (wants, asked)
     where
       in-e : e < length entry
@@ -63,4 +63,4 @@ module _ (verb kinds entry : List ℕ) (e : ℕ) (f : Found entry 0 32 e) where
       asked : Wants verb kinds entry → r ≡ true
       asked w =
           let p : after-space ≡ w .pattern = all-after ∙ ap₂ (λ (k : ℕ) (s : List ℕ). drop (k + 1) s) (place w) (w .whole) ∙ drop-append-add verb (32 ∷ w .pattern) 1 in
-          q ∙ ap (λ (s : List ℕ). fits s kinds) p ∙ w .fit
+          q ∙ ap (λ (s : List ℕ). fitsPattern s kinds) p ∙ w .fit

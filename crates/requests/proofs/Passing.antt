@@ -20,7 +20,7 @@ use Rattle.text.specs.declared.Named.{Named}
 use Rattle.text.specs.declared.Named.the-variants as named
 use Rattle.text.specs.declared.Number.{Number}
 use Rattle.text.specs.declared.Number.the-variants as read
-use Rattle.requests.specs.Protocol.{Word, number, family, slash, here, nowhere, raw, hereName, nowhereName, rawName, Spells, AllSpell}
+use Rattle.requests.specs.Protocol.{LineWord, number, family, slash, here, nowhere, raw, hereName, nowhereName, rawName, Spells, AllSpell}
 use Rattle.requests.specs.Parts.{kindOf, valueOf, kindsOf, valuesOf, KindOf, WordIn, TakenIn, TakesAll}
 
 apart : true ≡ false → ⊥
@@ -28,7 +28,7 @@ apart e = let z : _≡_ {A = ℕ} 0 1 = cc in omega arith
 
 -- ---- one text
 
-pub kind-is : (text : List ℕ) (x : Word) (k : ℕ) → Spells text x → kindOf x ≡ k → valueOf x ≡ 0 → 0 < k → KindOf text k
+pub kind-is : (text : List ℕ) (x : LineWord) (k : ℕ) → Spells text x → kindOf x ≡ k → valueOf x ≡ 0 → 0 < k → KindOf text k
 kind-is text x k s e v h =
     record {
       some = λ d. record { word = x; says = s; kind = e; value = v };
@@ -55,7 +55,7 @@ module _ (text : List ℕ) (i : ℕ) (kinds values : List ℕ) where
           let w = q .some (eqb-false k 0 (not-true (eqb k 0) t)) in
           record { word = w .word; says = w .says; kind = ap (set kinds i) (sym (w .kind)); value = ap (set values i) (sym (w .value)) }
 
-      none : not (eqb k 0) ≡ false → (x : Word) → Spells text x → ⊥
+      none : not (eqb k 0) ≡ false → (x : LineWord) → Spells text x → ⊥
       none t (number n) s = subst (Reads text) e o n (s .1) (s .0)
       none t (family F) s = q .no-family (eqb-true k 0 (not-false (eqb k 0) t)) F s
       none t slash s = q .no-slash (eqb-true k 0 (not-false (eqb k 0) t)) s
@@ -65,30 +65,30 @@ module _ (text : List ℕ) (i : ℕ) (kinds values : List ℕ) where
 
 -- ---- one text after the other
 
-spelled-more : (ts : List (List ℕ)) (xs : List Word) (t : List ℕ) (x : Word) → AllSpell ts xs → Spells t x → AllSpell (ts ++ (t ∷ [])) (xs ++ (x ∷ []))
+spelled-more : (ts : List (List ℕ)) (xs : List LineWord) (t : List ℕ) (x : LineWord) → AllSpell ts xs → Spells t x → AllSpell (ts ++ (t ∷ [])) (xs ++ (x ∷ []))
 spelled-more [] [] t x o s = (s, tt)
 spelled-more [] (y ∷ ys) t x o s = absurd o
 spelled-more (u ∷ us) [] t x o s = absurd o
 spelled-more (u ∷ us) (y ∷ ys) t x o s = (o .0, spelled-more us ys t x (o .1) s)
 
-as-many : (ts : List (List ℕ)) (xs : List Word) → AllSpell ts xs → length ts ≡ length xs
+as-many : (ts : List (List ℕ)) (xs : List LineWord) → AllSpell ts xs → length ts ≡ length xs
 as-many [] [] o = refl
 as-many [] (y ∷ ys) o = absurd o
 as-many (u ∷ us) [] o = absurd o
 as-many (u ∷ us) (y ∷ ys) o = ap suc (as-many us ys (o .1))
 
-all-say : (ts us : List (List ℕ)) (t : List ℕ) (xs : List Word) → AllSpell (ts ++ (t ∷ us)) xs → ((x : Word) → Spells t x → ⊥) → ⊥
+all-say : (ts us : List (List ℕ)) (t : List ℕ) (xs : List LineWord) → AllSpell (ts ++ (t ∷ us)) xs → ((x : LineWord) → Spells t x → ⊥) → ⊥
 all-say [] us t [] o d = o
 all-say [] us t (x ∷ xs) o d = d x (o .0)
 all-say (u ∷ ts) us t [] o d = o
 all-say (u ∷ ts) us t (x ∷ xs) o d = all-say ts us t xs (o .1) d
 
-mapped-more : (f : Word → ℕ) (xs : List Word) (x : Word) (rest : List ℕ) → map f xs ++ (f x ∷ rest) ≡ map f (xs ++ (x ∷ [])) ++ rest
+mapped-more : (f : LineWord → ℕ) (xs : List LineWord) (x : LineWord) (rest : List ℕ) → map f xs ++ (f x ∷ rest) ≡ map f (xs ++ (x ∷ [])) ++ rest
 mapped-more f [] x rest = refl
 mapped-more f (y ∷ ys) x rest = ap (λ (l : List ℕ). f y ∷ l) (mapped-more f ys x rest)
 
 -- one more word in the first places
-stored : (f : Word → ℕ) (xs : List Word) (x : Word) (n : ℕ) (old : List ℕ) → length xs ≡ n → n < length old
+stored : (f : LineWord → ℕ) (xs : List LineWord) (x : LineWord) (n : ℕ) (old : List ℕ) → length xs ≡ n → n < length old
     → set (map f xs ++ drop n old) n (f x) ≡ map f (xs ++ (x ∷ [])) ++ drop (n + 1) old
 stored f xs x n old e h =
     ap (λ (l : List ℕ). set (map f xs ++ l) n (f x)) (drop-cons old n 0 h) ∙ set-at (map f xs) _ (drop (suc n) old) (f x) n (length-map xs f ∙ e)
@@ -96,7 +96,7 @@ stored f xs x n old e h =
 
 pub record Passed (texts ahead : List (List ℕ)) (kinds₀ values₀ kinds values : List ℕ) (n : ℕ) : Type 0 where
   pub behind : List (List ℕ)
-  pub words : List Word
+  pub words : List LineWord
   pub whole : texts ≡ behind ++ ahead
   pub says : AllSpell behind words
   pub many : length words ≡ n
@@ -155,10 +155,10 @@ module _ (texts ahead : List (List ℕ)) (kinds₀ values₀ kinds values : List
         values-hold = omega (arith, o .values-hold, o .values-long);
       }
 
-  pub passed-bad : (t : List ℕ) (ts : List (List ℕ)) → ahead ≡ t ∷ ts → ((x : Word) → Spells t x → ⊥) → (xs : List Word) → AllSpell texts xs → ⊥
+  pub passed-bad : (t : List ℕ) (ts : List (List ℕ)) → ahead ≡ t ∷ ts → ((x : LineWord) → Spells t x → ⊥) → (xs : List LineWord) → AllSpell texts xs → ⊥
   passed-bad t ts e d xs s =
       all-say (o .behind) ts t xs (subst (λ (l : List (List ℕ)). AllSpell l xs) (o .whole ∙ ap (λ (l : List (List ℕ)). o .behind ++ l) e) s) d
 
-  pub passed-full : (m : ℕ) → m ≤ n → 0 < length ahead → (xs : List Word) → length xs ≤ m → AllSpell texts xs → ⊥
+  pub passed-full : (m : ℕ) → m ≤ n → 0 < length ahead → (xs : List LineWord) → length xs ≤ m → AllSpell texts xs → ⊥
   passed-full m h l xs k s =
       omega (arith, as-many texts xs s, ap length (o .whole), length-append (o .behind) ahead, as-many (o .behind) (o .words) (o .says), o .many)

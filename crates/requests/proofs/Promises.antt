@@ -25,15 +25,15 @@ use Rattle.text.specs.Numeral.{valueFrom, Numeral}
 use Rattle.text.proofs.Found.{found-first}
 use Rattle.requests.specs.declared.Begun.the-variants as begun
 use Rattle.requests.specs.declared.Rest.the-variants as taken
-use Rattle.requests.specs.Protocol.{textsFrom, Word, number, family, slash, here, nowhere, raw, Spells, AllSpell, Lent, enough, places, Opens, Asks}
+use Rattle.requests.specs.Protocol.{textsFrom, LineWord, number, family, slash, here, nowhere, raw, Spells, AllSpell, Lent, enough, places, Opens, Asks}
 use Rattle.requests.specs.Parts.{BeginsAt, Begins, kindsOf, valuesOf, TakesAll, Takes, familyAt}
-use Rattle.requests.specs.Patterns.{numbersIn, fits}
+use Rattle.requests.specs.Patterns.{numbersIn, fitsPattern}
 use Rattle.requests.proofs.Fitting.{fits-list}
 
 -- ---- one reading
 
 -- the word that is no number, by its first byte
-byFirst : ℕ → Word
+byFirst : ℕ → LineWord
 byFirst b = pick (eqb b 102) (family Forbidden) (pick (eqb b 97) (family Allowed) (pick (eqb b 104) here (pick (eqb b 110) nowhere (pick (eqb b 114) raw slash))))
 
 -- a first byte that is no digit
@@ -41,10 +41,10 @@ abbrev NoDigit : ℕ → Type 0
 NoDigit b = (b < 48) ⊎ (57 < b)
 
 -- a word is a number, or its text begins with a byte that is no digit and tells it
-abbrev Told : List ℕ → Word → Type 0
+abbrev Told : List ℕ → LineWord → Type 0
 Told t x = ((n : ℕ) × (x ≡ number n) × Numeral t n) ⊎ ((x ≡ byFirst (getD t 0 0)) × NoDigit (getD t 0 0))
 
-told : (t : List ℕ) (x : Word) → Spells t x → Told t x
+told : (t : List ℕ) (x : LineWord) → Spells t x → Told t x
 unfolding byFirst
 told t (number n) s = inl (n, refl, s .0)
 told t (family Forbidden) s = subst (λ (u : List ℕ). Told u (family Forbidden)) (sym s) (inr (refl, inr (omega arith)))
@@ -59,7 +59,7 @@ begins-with-digit : (t : List ℕ) (n : ℕ) → Numeral t n → NoDigit (getD t
 begins-with-digit t n o (inl l) = let g = o .digits 0 (o .some) in omega (arith, g .0)
 begins-with-digit t n o (inr l) = let g = o .digits 0 (o .some) in omega (arith, g .1)
 
-pub one-word : (t : List ℕ) (x y : Word) → Spells t x → Spells t y → x ≡ y
+pub one-word : (t : List ℕ) (x y : LineWord) → Spells t x → Spells t y → x ≡ y
 one-word t x y p q = go (told t x p) (told t y q)
   where
     go : Told t x → Told t y → x ≡ y
@@ -68,13 +68,13 @@ one-word t x y p q = go (told t x p) (told t y q)
     go (inr a) (inl b) = absurd (begins-with-digit t (b .0) (b .2) (a .1))
     go (inr a) (inr b) = a .0 ∙ sym (b .0)
 
-all-one : (ts : List (List ℕ)) (xs ys : List Word) → AllSpell ts xs → AllSpell ts ys → xs ≡ ys
+all-one : (ts : List (List ℕ)) (xs ys : List LineWord) → AllSpell ts xs → AllSpell ts ys → xs ≡ ys
 all-one [] [] [] p q = refl
 all-one [] [] (y ∷ ys) p q = absurd q
 all-one [] (x ∷ xs) ys p q = absurd p
 all-one (t ∷ ts) [] ys p q = absurd p
 all-one (t ∷ ts) (x ∷ xs) [] p q = absurd q
-all-one (t ∷ ts) (x ∷ xs) (y ∷ ys) p q = ap₂ (λ (z : Word) (zs : List Word). z ∷ zs) (one-word t x y (p .0) (q .0)) (all-one ts xs ys (p .1) (q .1))
+all-one (t ∷ ts) (x ∷ xs) (y ∷ ys) p q = ap₂ (λ (z : LineWord) (zs : List LineWord). z ∷ zs) (one-word t x y (p .0) (q .0)) (all-one ts xs ys (p .1) (q .1))
 
 one-opening : (line : List ℕ) (l m : Lent) (u v : List ℕ) (ts us : List (List ℕ)) → Opens line l u ts → Opens line m v us → (l ≡ m) × ((u ≡ v) × (ts ≡ us))
 one-opening line enough enough u v ts us p q = let a = p .lends in let b = q .lends in (refl, (cc, cc))
@@ -86,7 +86,7 @@ one-opening line (places n) (places m) u v ts us p q =
     let e : p .lends .numeral ≡ q .lends .numeral = cc in
     (ap places (sym (p .lends .writes .value) ∙ ap (valueFrom 0) e ∙ q .lends .writes .value), (cc, cc))
 
-pub one-reading : (line : List ℕ) (l m : Lent) (u v : List ℕ) (xs ys : List Word) → Asks line l u xs → Asks line m v ys → (l ≡ m) × ((u ≡ v) × (xs ≡ ys))
+pub one-reading : (line : List ℕ) (l m : Lent) (u v : List ℕ) (xs ys : List LineWord) → Asks line l u xs → Asks line m v ys → (l ≡ m) × ((u ≡ v) × (xs ≡ ys))
 one-reading line l m u v xs ys p q =
     let o = one-opening line l m u v (p .rest) (q .rest) (p .opens) (q .opens) in
     (o .0, (o .1 .0, all-one (q .rest) xs ys (subst (λ (ts : List (List ℕ)). AllSpell ts xs) (o .1 .1) (p .says)) (q .says)))
@@ -97,23 +97,23 @@ module _ (line : List ℕ) (room from end : ℕ) (b : BeginsAt line room from en
   pub taken-apart : (n : ℕ) (t : TakesAll (textsFrom line (end + 1)) kinds values kinds′ values′ n) → Asks line (b .lent) (take (end - from) (drop from line)) (t .words)
   taken-apart n t = record { rest = textsFrom line (end + 1); opens = b .opens; says = t .says }
 
-  pub bad-words : Takes (textsFrom line (end + 1)) kinds values kinds′ values′ taken.Bad → (lent : Lent) (verb : List ℕ) (xs : List Word)
+  pub bad-words : Takes (textsFrom line (end + 1)) kinds values kinds′ values′ taken.Bad → (lent : Lent) (verb : List ℕ) (xs : List LineWord)
       → length xs ≤ length kinds → length xs ≤ length values → Asks line lent verb xs → ⊥
   bad-words d lent verb xs k v o =
       let same = one-opening line lent (b .lent) verb (take (end - from) (drop from line)) (o .rest) (textsFrom line (end + 1)) (o .opens) (b .opens) in
       d xs k v (subst (λ (ts : List (List ℕ)). AllSpell ts xs) (same .1 .1) (o .says))
 
-pub bad-head : (line : List ℕ) → Begins line begun.Bad → (lent : Lent) (verb : List ℕ) (xs : List Word) → Asks line lent verb xs → ⊥
+pub bad-head : (line : List ℕ) → Begins line begun.Bad → (lent : Lent) (verb : List ℕ) (xs : List LineWord) → Asks line lent verb xs → ⊥
 bad-head line d lent verb xs o = d lent verb (o .rest) (o .opens)
 
 -- ---- the words by their places
 
-pub family-read : (xs ys : List Word) (F : Family) → familyAt (kindsOf (xs ++ (family F ∷ ys))) (length xs) ≡ F
+pub family-read : (xs ys : List LineWord) (F : Family) → familyAt (kindsOf (xs ++ (family F ∷ ys))) (length xs) ≡ F
 family-read [] ys Forbidden = refl
 family-read [] ys Allowed = refl
 family-read (x ∷ xs) ys F = family-read xs ys F
 
-pub number-read : (xs ys : List Word) (n : ℕ) → getD (valuesOf (xs ++ (number n ∷ ys))) (length xs) 0 ≡ n
+pub number-read : (xs ys : List LineWord) (n : ℕ) → getD (valuesOf (xs ++ (number n ∷ ys))) (length xs) 0 ≡ n
 number-read [] ys n = refl
 number-read (x ∷ xs) ys n = number-read xs ys n
 
@@ -121,12 +121,12 @@ values-of-numbers : (w : List ℕ) → valuesOf (map number w) ≡ w
 values-of-numbers [] = refl
 values-of-numbers (n ∷ w) = ap (λ (v : List ℕ). n ∷ v) (values-of-numbers w)
 
-pub list-read : (xs : List Word) (w : List ℕ) → drop (length xs) (valuesOf (xs ++ map number w)) ≡ w
+pub list-read : (xs : List LineWord) (w : List ℕ) → drop (length xs) (valuesOf (xs ++ map number w)) ≡ w
 list-read [] w = values-of-numbers w
 list-read (x ∷ xs) w = list-read xs w
 
 -- the words of two lists
-abbrev lists : List ℕ → List ℕ → List Word
+abbrev lists : List ℕ → List ℕ → List LineWord
 lists v w = map number v ++ (slash ∷ map number w)
 
 slash-place : (v w : List ℕ) (s : ℕ) → Found (kindsOf (lists v w)) 0 47 s → s ≡ length v
@@ -161,13 +161,13 @@ lists-read v w s f = (ap (λ (k : ℕ). take k (valuesOf (lists v w))) (slash-pl
 never : {A : Type 0} → false ≡ true → A
 never e = absurd (let z : _≡_ {A = ℕ} 0 1 = cc in omega arith)
 
-pub end-fits : (xs : List Word) → fits [] (kindsOf xs) ≡ true → xs ≡ []
-unfolding fits
+pub end-fits : (xs : List LineWord) → fitsPattern [] (kindsOf xs) ≡ true → xs ≡ []
+unfolding fitsPattern
 end-fits [] e = refl
 end-fits (x ∷ xs) e = never e
 
-pub family-fits : (p : List ℕ) (xs : List Word) → fits (70 ∷ p) (kindsOf xs) ≡ true → (F : Family) × (ys : List Word) × (xs ≡ family F ∷ ys) × (fits p (kindsOf ys) ≡ true)
-unfolding fits
+pub family-fits : (p : List ℕ) (xs : List LineWord) → fitsPattern (70 ∷ p) (kindsOf xs) ≡ true → (F : Family) × (ys : List LineWord) × (xs ≡ family F ∷ ys) × (fitsPattern p (kindsOf ys) ≡ true)
+unfolding fitsPattern
 family-fits p [] e = never e
 family-fits p (number n ∷ xs) e = never e
 family-fits p (family Forbidden ∷ xs) e = (Forbidden, xs, refl, e)
@@ -177,8 +177,8 @@ family-fits p (here ∷ xs) e = never e
 family-fits p (nowhere ∷ xs) e = never e
 family-fits p (raw ∷ xs) e = never e
 
-pub number-fits : (p : List ℕ) (xs : List Word) → fits (110 ∷ p) (kindsOf xs) ≡ true → (n : ℕ) × (ys : List Word) × (xs ≡ number n ∷ ys) × (fits p (kindsOf ys) ≡ true)
-unfolding fits
+pub number-fits : (p : List ℕ) (xs : List LineWord) → fitsPattern (110 ∷ p) (kindsOf xs) ≡ true → (n : ℕ) × (ys : List LineWord) × (xs ≡ number n ∷ ys) × (fitsPattern p (kindsOf ys) ≡ true)
+unfolding fitsPattern
 number-fits p [] e = never e
 number-fits p (number n ∷ xs) e = (n, xs, refl, e)
 number-fits p (family Forbidden ∷ xs) e = never e
@@ -188,8 +188,8 @@ number-fits p (here ∷ xs) e = never e
 number-fits p (nowhere ∷ xs) e = never e
 number-fits p (raw ∷ xs) e = never e
 
-pub slash-fits : (p : List ℕ) (xs : List Word) → fits (47 ∷ p) (kindsOf xs) ≡ true → (ys : List Word) × (xs ≡ slash ∷ ys) × (fits p (kindsOf ys) ≡ true)
-unfolding fits
+pub slash-fits : (p : List ℕ) (xs : List LineWord) → fitsPattern (47 ∷ p) (kindsOf xs) ≡ true → (ys : List LineWord) × (xs ≡ slash ∷ ys) × (fitsPattern p (kindsOf ys) ≡ true)
+unfolding fitsPattern
 slash-fits p [] e = never e
 slash-fits p (number n ∷ xs) e = never e
 slash-fits p (family Forbidden ∷ xs) e = never e
@@ -199,8 +199,8 @@ slash-fits p (here ∷ xs) e = never e
 slash-fits p (nowhere ∷ xs) e = never e
 slash-fits p (raw ∷ xs) e = never e
 
-pub here-fits : (p : List ℕ) (xs : List Word) → fits (104 ∷ p) (kindsOf xs) ≡ true → (ys : List Word) × (xs ≡ here ∷ ys) × (fits p (kindsOf ys) ≡ true)
-unfolding fits
+pub here-fits : (p : List ℕ) (xs : List LineWord) → fitsPattern (104 ∷ p) (kindsOf xs) ≡ true → (ys : List LineWord) × (xs ≡ here ∷ ys) × (fitsPattern p (kindsOf ys) ≡ true)
+unfolding fitsPattern
 here-fits p [] e = never e
 here-fits p (number n ∷ xs) e = never e
 here-fits p (family Forbidden ∷ xs) e = never e
@@ -210,8 +210,8 @@ here-fits p (here ∷ xs) e = (xs, refl, e)
 here-fits p (nowhere ∷ xs) e = never e
 here-fits p (raw ∷ xs) e = never e
 
-pub nowhere-fits : (p : List ℕ) (xs : List Word) → fits (119 ∷ p) (kindsOf xs) ≡ true → (ys : List Word) × (xs ≡ nowhere ∷ ys) × (fits p (kindsOf ys) ≡ true)
-unfolding fits
+pub nowhere-fits : (p : List ℕ) (xs : List LineWord) → fitsPattern (119 ∷ p) (kindsOf xs) ≡ true → (ys : List LineWord) × (xs ≡ nowhere ∷ ys) × (fitsPattern p (kindsOf ys) ≡ true)
+unfolding fitsPattern
 nowhere-fits p [] e = never e
 nowhere-fits p (number n ∷ xs) e = never e
 nowhere-fits p (family Forbidden ∷ xs) e = never e
@@ -221,8 +221,8 @@ nowhere-fits p (here ∷ xs) e = never e
 nowhere-fits p (nowhere ∷ xs) e = (xs, refl, e)
 nowhere-fits p (raw ∷ xs) e = never e
 
-pub raw-fits : (p : List ℕ) (xs : List Word) → fits (114 ∷ p) (kindsOf xs) ≡ true → (ys : List Word) × (xs ≡ raw ∷ ys) × (fits p (kindsOf ys) ≡ true)
-unfolding fits
+pub raw-fits : (p : List ℕ) (xs : List LineWord) → fitsPattern (114 ∷ p) (kindsOf xs) ≡ true → (ys : List LineWord) × (xs ≡ raw ∷ ys) × (fitsPattern p (kindsOf ys) ≡ true)
+unfolding fitsPattern
 raw-fits p [] e = never e
 raw-fits p (number n ∷ xs) e = never e
 raw-fits p (family Forbidden ∷ xs) e = never e
@@ -233,14 +233,14 @@ raw-fits p (nowhere ∷ xs) e = never e
 raw-fits p (raw ∷ xs) e = (xs, refl, e)
 
 -- the numbers that words begin with, and the words after them
-numbers-first : (xs : List Word) → (w : List ℕ) × (ys : List Word) × (xs ≡ map number w ++ ys) × (length w ≡ numbersIn (kindsOf xs)) × (drop (numbersIn (kindsOf xs)) (kindsOf xs) ≡ kindsOf ys)
+numbers-first : (xs : List LineWord) → (w : List ℕ) × (ys : List LineWord) × (xs ≡ map number w ++ ys) × (length w ≡ numbersIn (kindsOf xs)) × (drop (numbersIn (kindsOf xs)) (kindsOf xs) ≡ kindsOf ys)
 unfolding numbersIn
 numbers-first [] = ([], [], refl, refl, refl)
 numbers-first (number n ∷ xs) = go (numbers-first xs)
   where
-    go : (w : List ℕ) × (ys : List Word) × (xs ≡ map number w ++ ys) × (length w ≡ numbersIn (kindsOf xs)) × (drop (numbersIn (kindsOf xs)) (kindsOf xs) ≡ kindsOf ys)
-        → (w : List ℕ) × (ys : List Word) × (number n ∷ xs ≡ map number w ++ ys) × (length w ≡ suc (numbersIn (kindsOf xs))) × (drop (numbersIn (kindsOf xs)) (kindsOf xs) ≡ kindsOf ys)
-    go t = (n ∷ t .0, t .1, ap (λ (l : List Word). number n ∷ l) (t .2), ap suc (t .3), t .4)
+    go : (w : List ℕ) × (ys : List LineWord) × (xs ≡ map number w ++ ys) × (length w ≡ numbersIn (kindsOf xs)) × (drop (numbersIn (kindsOf xs)) (kindsOf xs) ≡ kindsOf ys)
+        → (w : List ℕ) × (ys : List LineWord) × (number n ∷ xs ≡ map number w ++ ys) × (length w ≡ suc (numbersIn (kindsOf xs))) × (drop (numbersIn (kindsOf xs)) (kindsOf xs) ≡ kindsOf ys)
+    go t = (n ∷ t .0, t .1, ap (λ (l : List LineWord). number n ∷ l) (t .2), ap suc (t .3), t .4)
 numbers-first (family Forbidden ∷ xs) = ([], family Forbidden ∷ xs, refl, refl, refl)
 numbers-first (family Allowed ∷ xs) = ([], family Allowed ∷ xs, refl, refl, refl)
 numbers-first (slash ∷ xs) = ([], slash ∷ xs, refl, refl, refl)
@@ -248,12 +248,12 @@ numbers-first (here ∷ xs) = ([], here ∷ xs, refl, refl, refl)
 numbers-first (nowhere ∷ xs) = ([], nowhere ∷ xs, refl, refl, refl)
 numbers-first (raw ∷ xs) = ([], raw ∷ xs, refl, refl, refl)
 
-pub list-fits : (p : List ℕ) (xs : List Word) → fits (42 ∷ p) (kindsOf xs) ≡ true → (w : List ℕ) × (ys : List Word) × (xs ≡ map number w ++ ys) × (length w ≤ 80) × (fits p (kindsOf ys) ≡ true)
+pub list-fits : (p : List ℕ) (xs : List LineWord) → fitsPattern (42 ∷ p) (kindsOf xs) ≡ true → (w : List ℕ) × (ys : List LineWord) × (xs ≡ map number w ++ ys) × (length w ≤ 80) × (fitsPattern p (kindsOf ys) ≡ true)
 list-fits p xs e = go (ltb 80 (numbersIn (kindsOf xs))) refl (numbers-first xs)
   where
     go : (t : Bool) → ltb 80 (numbersIn (kindsOf xs)) ≡ t
-        → (w : List ℕ) × (ys : List Word) × (xs ≡ map number w ++ ys) × (length w ≡ numbersIn (kindsOf xs)) × (drop (numbersIn (kindsOf xs)) (kindsOf xs) ≡ kindsOf ys)
-        → (w : List ℕ) × (ys : List Word) × (xs ≡ map number w ++ ys) × (length w ≤ 80) × (fits p (kindsOf ys) ≡ true)
+        → (w : List ℕ) × (ys : List LineWord) × (xs ≡ map number w ++ ys) × (length w ≡ numbersIn (kindsOf xs)) × (drop (numbersIn (kindsOf xs)) (kindsOf xs) ≡ kindsOf ys)
+        → (w : List ℕ) × (ys : List LineWord) × (xs ≡ map number w ++ ys) × (length w ≤ 80) × (fitsPattern p (kindsOf ys) ≡ true)
     go true d t = never (sym (fits-list p (kindsOf xs) ∙ (simp d)) ∙ e)
     go false d t =
-        (t .0, t .1, t .2, omega (arith, t .3, ltb-false 80 (numbersIn (kindsOf xs)) d), ap (fits p) (sym (t .4)) ∙ sym (fits-list p (kindsOf xs) ∙ (simp d)) ∙ e)
+        (t .0, t .1, t .2, omega (arith, t .3, ltb-false 80 (numbersIn (kindsOf xs)) d), ap (fitsPattern p) (sym (t .4)) ∙ sym (fits-list p (kindsOf xs) ∙ (simp d)) ∙ e)

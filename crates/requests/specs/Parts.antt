@@ -24,7 +24,7 @@ use Rattle.requests.specs.declared.Begun.{Begun}
 use Rattle.requests.specs.declared.Begun.the-variants as begun
 use Rattle.requests.specs.declared.Rest.{Rest}
 use Rattle.requests.specs.declared.Rest.the-variants as rest
-use Rattle.requests.specs.Protocol.{textsFrom, Word, number, family, slash, here, nowhere, raw, hereName, nowhereName, rawName, Spells, AllSpell, Lent, enough, places, roomName, Opens}
+use Rattle.requests.specs.Protocol.{textsFrom, LineWord, number, family, slash, here, nowhere, raw, hereName, nowhereName, rawName, Spells, AllSpell, Lent, enough, places, roomName, Opens}
 
 abbrev pub roomOf : Lent → ℕ
 roomOf enough = 2 ^ 64 - 1
@@ -63,7 +63,7 @@ AfterRoom line at (begun.Verb room from end) = RoomIs line at room from end
 AfterRoom line at begun.Bad =
     (numeral verb : List ℕ) (rest : List (List ℕ)) (n : ℕ) → textsFrom line at ≡ numeral ∷ (verb ∷ rest) → Numeral numeral n → n < 2 ^ 64 → (verb ≡ roomName → ⊥) → ⊥
 
-abbrev pub kindOf : Word → ℕ
+abbrev pub kindOf : LineWord → ℕ
 kindOf (number n) = 110
 kindOf (family Forbidden) = 102
 kindOf (family Allowed) = 97
@@ -72,7 +72,7 @@ kindOf here = 104
 kindOf nowhere = 119
 kindOf raw = 114
 
-abbrev pub valueOf : Word → ℕ
+abbrev pub valueOf : LineWord → ℕ
 valueOf (number n) = n
 valueOf (family F) = 0
 valueOf slash = 0
@@ -80,14 +80,14 @@ valueOf here = 0
 valueOf nowhere = 0
 valueOf raw = 0
 
-abbrev pub kindsOf : List Word → List ℕ
+abbrev pub kindsOf : List LineWord → List ℕ
 kindsOf xs = map kindOf xs
 
-abbrev pub valuesOf : List Word → List ℕ
+abbrev pub valuesOf : List LineWord → List ℕ
 valuesOf xs = map valueOf xs
 
 pub record IsKind (text : List ℕ) (k : ℕ) : Type 0 where
-  pub word : Word
+  pub word : LineWord
   pub says : Spells text word
   pub kind : kindOf word ≡ k
   pub value : valueOf word ≡ 0
@@ -101,17 +101,17 @@ pub record KindOf (text : List ℕ) (k : ℕ) : Type 0 where
   pub no-raw : k ≡ 0 → text ≡ rawName → ⊥
 
 pub record WordIn (text : List ℕ) (i : ℕ) (kinds values kinds′ values′ : List ℕ) : Type 0 where
-  pub word : Word
+  pub word : LineWord
   pub says : Spells text word
   pub kind : kinds′ ≡ set kinds i (kindOf word)
   pub value : values′ ≡ set values i (valueOf word)
 
 pub record TakenIn (text : List ℕ) (i : ℕ) (kinds values kinds′ values′ : List ℕ) (r : Bool) : Type 0 where
   pub one : r ≡ true → WordIn text i kinds values kinds′ values′
-  pub none : r ≡ false → (x : Word) → Spells text x → ⊥
+  pub none : r ≡ false → (x : LineWord) → Spells text x → ⊥
 
 pub record TakesAll (texts : List (List ℕ)) (kinds values kinds′ values′ : List ℕ) (n : ℕ) : Type 0 where
-  pub words : List Word
+  pub words : List LineWord
   pub says : AllSpell texts words
   pub many : length words ≡ n
   pub kinds-are : kinds′ ≡ kindsOf words ++ drop n kinds
@@ -121,7 +121,7 @@ pub record TakesAll (texts : List (List ℕ)) (kinds values kinds′ values′ :
 
 abbrev pub Takes : List (List ℕ) → List ℕ → List ℕ → List ℕ → List ℕ → Rest → Type 0
 Takes texts kinds values kinds′ values′ (rest.Words n) = TakesAll texts kinds values kinds′ values′ n
-Takes texts kinds values kinds′ values′ rest.Bad = (xs : List Word) → length xs ≤ length kinds → length xs ≤ length values → AllSpell texts xs → ⊥
+Takes texts kinds values kinds′ values′ rest.Bad = (xs : List LineWord) → length xs ≤ length kinds → length xs ≤ length values → AllSpell texts xs → ⊥
 
 abbrev pub familyAt : List ℕ → ℕ → Family
 familyAt kinds i = pick (eqb (getD kinds i 0) 97) Allowed Forbidden

@@ -1,7 +1,7 @@
 -- The line of a request as a list of bytes (docs/RULES.md, section 13): what its words are, and what they say. Assumes nothing.
 --   textsOf line    the texts of a line, one space between two of them: an empty line is one empty text
 --   textsFrom line from    the texts of what stands from place `from` on; past the end, which is where no space is left, there are none
---   Word    what a text after the verb says: a number, a family, the lone `/`, the place of a walk, `here` or `nowhere`, or `raw`, behind which a record of any content stands
+--   LineWord    what a text after the verb says: a number, a family, the lone `/`, the place of a walk, `here` or `nowhere`, or `raw`, behind which a record of any content stands
 --   hereName, nowhereName, rawName    the bytes of `here`, of `nowhere` and of `raw`
 --   Spells text x    the text says x: a number in decimal below 2 ^ 64 with no zero in front, a family by its name, `/`, `here`, `nowhere` and `raw` by themselves
 --   AllSpell texts xs    the texts say the words xs, one each
@@ -33,13 +33,13 @@ textsFrom s zero = textsOf s
 textsFrom [] (suc from) = []
 textsFrom (b ∷ s) (suc from) = textsFrom s from
 
-pub data Word : Type 0 where
-  number : ℕ → Word
-  family : Family → Word
-  slash : Word
-  here : Word
-  nowhere : Word
-  raw : Word
+pub data LineWord : Type 0 where
+  number : ℕ → LineWord
+  family : Family → LineWord
+  slash : LineWord
+  here : LineWord
+  nowhere : LineWord
+  raw : LineWord
 
 abbrev pub hereName : List ℕ
 hereName = 104 ∷ 101 ∷ 114 ∷ 101 ∷ []
@@ -50,7 +50,7 @@ nowhereName = 110 ∷ 111 ∷ 119 ∷ 104 ∷ 101 ∷ 114 ∷ 101 ∷ []
 abbrev pub rawName : List ℕ
 rawName = 114 ∷ 97 ∷ 119 ∷ []
 
-abbrev pub Spells : List ℕ → Word → Type 0
+abbrev pub Spells : List ℕ → LineWord → Type 0
 Spells text (number n) = Numeral text n × (n < 2 ^ 64)
 Spells text (family F) = text ≡ nameOf F
 Spells text slash = text ≡ 47 ∷ []
@@ -58,7 +58,7 @@ Spells text here = text ≡ hereName
 Spells text nowhere = text ≡ nowhereName
 Spells text raw = text ≡ rawName
 
-abbrev pub AllSpell : List (List ℕ) → List Word → Type 0
+abbrev pub AllSpell : List (List ℕ) → List LineWord → Type 0
 AllSpell [] [] = Unit {0}
 AllSpell [] (x ∷ xs) = ⊥
 AllSpell (t ∷ ts) [] = ⊥
@@ -86,7 +86,7 @@ pub record Opens (line : List ℕ) (lent : Lent) (verb : List ℕ) (rest : List 
   pub lends : Lends (textsOf line) lent verb rest
   pub once : verb ≡ roomName → ⊥
 
-pub record Asks (line : List ℕ) (lent : Lent) (verb : List ℕ) (xs : List Word) : Type 0 where
+pub record Asks (line : List ℕ) (lent : Lent) (verb : List ℕ) (xs : List LineWord) : Type 0 where
   pub rest : List (List ℕ)
   pub opens : Opens line lent verb rest
   pub says : AllSpell rest xs

@@ -7,7 +7,7 @@ ghost use lib.ListN.{length, take, drop, getD};
 ghost use Rattle.text.specs.Text.{Found};
 ghost use Rattle.requests.specs.Protocol.{textsFrom};
 ghost use Rattle.requests.specs.Parts.{Begins, VerbAt, AfterRoom, KindOf, TakenIn, Takes, familyAt};
-ghost use Rattle.requests.specs.Patterns.{stands, numbersIn, fits, After, Wants};
+ghost use Rattle.requests.specs.Patterns.{standsFor, numbersIn, fitsPattern, After, Wants};
 use text::Named;
 use text::Number;
 use words::Family;
@@ -163,7 +163,7 @@ fn after_list(kinds: &[u8], i: usize) -> usize
 
 // Whether a word of this kind stands for a letter of a pattern: F for a family, and itself otherwise.
 fn is_for(kind: u8, letter: u8) -> bool
-    ensures { λ r. ⌜ r ≡ stands kind letter ⌝ }
+    ensures { λ r. ⌜ r ≡ standsFor kind letter ⌝ }
 {
     if letter == b'F' {
         if kind == b'f' {
@@ -192,7 +192,7 @@ fn after(kinds: &[u8], i: usize, letter: u8) -> usize
 
 // Whether the words are those of a pattern: F a family, * a list of numbers, any other letter a word of that kind.
 fn are(kinds: &[u8], pattern: &[u8]) -> bool
-    ensures { λ r. ⌜ r ≡ fits (now (pattern .entry)) (now (kinds .entry)) ⌝ }
+    ensures { λ r. ⌜ r ≡ fitsPattern (now (pattern .entry)) (now (kinds .entry)) ⌝ }
 {
     let mut i = 0;
     let mut j = 0;

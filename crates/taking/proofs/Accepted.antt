@@ -36,7 +36,7 @@ use Rattle.answers.proofs.Says.{passed}
 use Rattle.answers.proofs.Terms.{word-of-index, word-long, word-monotone, shifted-word}
 use Rattle.taking.specs.declared.Verdict.{Verdict}
 use Rattle.taking.specs.declared.Verdict.the-variants as verdict
-use Rattle.taking.specs.Taken.{top, tooWide, outside, taken, takenBoth, Accepted, verdictOf, verdictOfBoth, through}
+use Rattle.taking.specs.Taken.{shiftedAlphabetOf, tooWide, outside, taken, takenBoth, Accepted, verdictOf, verdictOfBoth, through}
 
 -- ---- the cheap test
 
@@ -63,18 +63,18 @@ outside-is-reaches x n k e =
 
 -- ---- what is accepted
 
-pub accepted-is-a-word : (x : Index) → Accepted x ↔ ((top x ≤ 64) × Word (x .family) (x .alphabet) (length (wordOf x)) (wordOf x))
+pub accepted-is-a-word : (x : Index) → Accepted x ↔ ((shiftedAlphabetOf x ≤ 64) × Word (x .family) (x .alphabet) (length (wordOf x)) (wordOf x))
 accepted-is-a-word x = (
   λ a. (a .narrow, record { long = refl; monotone = word-monotone x; below = a .over }),
   λ p. record { narrow = p .0; over = p .1 .below },
 )
 
 pub accepted-passes : (x : Index) → Accepted x → (tooWide x ≡ false) × (outside x ≡ false)
-accepted-passes x a = (le-ltb 64 (top x) (a .narrow), reaches-not (x .alphabet) (wordOf x) .1 (a .over))
+accepted-passes x a = (le-ltb 64 (shiftedAlphabetOf x) (a .narrow), reaches-not (x .alphabet) (wordOf x) .1 (a .over))
 
 pub passes-accepted : (x : Index) → tooWide x ≡ false → outside x ≡ false → Accepted x
 passes-accepted x t o =
-    record { narrow = ltb-false 64 (top x) t; over = reaches-not (x .alphabet) (wordOf x) .0 o }
+    record { narrow = ltb-false 64 (shiftedAlphabetOf x) t; over = reaches-not (x .alphabet) (wordOf x) .0 o }
 
 pub index-accepted : (F : Family) (n k : ℕ) (w : List ℕ) → shiftedAlphabet F n k ≤ 64 → Word F n k w → Accepted (indexOf F n w)
 index-accepted F n k w h d =
@@ -139,14 +139,14 @@ few-bits a k h e = omega (arith, e ∙ set-bits-long a, ones-le 64 a h)
 
 -- an alphabet above 64 is too wide
 pub wide-alphabet : (x : Index) → 64 < x .alphabet → tooWide x ≡ true
-wide-alphabet x h = lt-ltb 64 (top x) (omega (arith, h, alphabet-least (x .family) (x .alphabet) (length (wordOf x))))
+wide-alphabet x h = lt-ltb 64 (shiftedAlphabetOf x) (omega (arith, h, alphabet-least (x .family) (x .alphabet) (length (wordOf x))))
 
 -- not too wide, the alphabet itself is at most 64
 pub narrow-alphabet : (x : Index) → tooWide x ≡ false → x .alphabet ≤ 64
 narrow-alphabet x t =
     omega (
       arith,
-      ltb-false 64 (top x) t,
+      ltb-false 64 (shiftedAlphabetOf x) t,
       alphabet-least (x .family) (x .alphabet) (length (wordOf x)),
     )
 

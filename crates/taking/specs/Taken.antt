@@ -1,6 +1,6 @@
 -- When a call takes the index that it is given (02, §8): the record names an alphabet n, its shifted alphabet is at most 64 and every symbol is below n.
 -- Assumes nothing.
---   top x    the record's shifted alphabet
+--   shiftedAlphabetOf x    the record's shifted alphabet
 --   tooWide x    is it above 64?
 --   outside x    is a symbol of its word n or more?
 --   taken x s    1 if too wide; 7 if a symbol is outside; otherwise s
@@ -21,11 +21,11 @@ use Rattle.answers.specs.Terms.{wordOf}
 use Rattle.taking.specs.declared.Verdict.{Verdict}
 use Rattle.taking.specs.declared.Verdict.the-variants as verdict
 
-abbrev pub top : Index → ℕ
-top x = shiftedAlphabet (x .family) (x .alphabet) (length (wordOf x))
+abbrev pub shiftedAlphabetOf : Index → ℕ
+shiftedAlphabetOf x = shiftedAlphabet (x .family) (x .alphabet) (length (wordOf x))
 
 abbrev pub tooWide : Index → Bool
-tooWide x = ltb 64 (top x)
+tooWide x = ltb 64 (shiftedAlphabetOf x)
 
 abbrev pub outside : Index → Bool
 outside x = reaches (x .alphabet) (wordOf x)
@@ -37,7 +37,7 @@ abbrev pub takenBoth : {A : Type 0} → Index → Index → Says A → Says A
 takenBoth x y s = refusedIf (tooWide x) 1 (refusedIf (tooWide y) 1 (refusedIf (outside x) 7 (refusedIf (outside y) 7 s)))
 
 pub record Accepted (x : Index) : Type 0 where
-  pub narrow : top x ≤ 64
+  pub narrow : shiftedAlphabetOf x ≤ 64
   pub over : Below (x .alphabet) (wordOf x)
 
 -- ---- as a value

@@ -4,7 +4,7 @@ ghost use mathlib.Core.Bool.{false};
 ghost use Prim.Native.Nat.{_≤_};
 ghost use lib.Dec.{ltb};
 ghost use Rattle.words.specs.Word.{shiftedAlphabet};
-ghost use Rattle.taking.specs.Taken.{top as topOf, tooWide, outside as outsideOf, verdictOf, verdictOfBoth};
+ghost use Rattle.taking.specs.Taken.{shiftedAlphabetOf as topOf, tooWide, outside as outsideOf, verdictOf, verdictOfBoth};
 use answers::Index;
 use answers::Refusal;
 use words::Family;

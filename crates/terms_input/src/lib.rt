@@ -2,12 +2,12 @@
 // ignored.
 ghost use Prim.Native.Nat.{_≤_, _<_};
 ghost use lib.ListN.{length};
-ghost use Rattle.terms_line.specs.Line.{longest};
+ghost use Rattle.terms_line.specs.Line.{lineLimit};
 
 // Reads until a newline has come, the input ends or the buffer is full, and answers how many bytes came. The buffer is longer than every
 // good line, so a line that fills it is bad, whatever follows (`terms_line::first`).
 fn read_line(buffer: &mut [u8]) -> usize
-    requires { ⌜ longest < length (now buffer) ⌝ }
+    requires { ⌜ lineLimit < length (now buffer) ⌝ }
     ensures { λ r. ⌜ r ≤ length (now (buffer .exit)) ⌝ }
 {
     let mut n = 0;

@@ -25,7 +25,7 @@ use Rattle.text.specs.declared.Number.{Number}
 use Rattle.text.specs.declared.Number.the-variants as number
 use Rattle.text.proofs.Found.{found-later, found-first}
 use Rattle.terms_line.specs.declared.Line.the-variants as line
-use Rattle.terms_line.specs.Line.{Asks, Parses}
+use Rattle.terms_line.specs.Line.{AsksWords, Parses}
 
 -- the text about a space
 around : (s : List ℕ) (a : ℕ) → a < length s → getD s a 0 ≡ 32 → s ≡ take a s ++ (32 ∷ drop (a + 1) s)
@@ -89,14 +89,14 @@ name-solid Allowed = letters-solid (nameOf Allowed) (search needs)
 numeral-solid : (w : List ℕ) (n : ℕ) → Numeral w n → (k : ℕ) → k < length w → getD w k 0 ≡ 32 → ⊥
 numeral-solid w n o k l e = omega (arith, o .digits k l)
 
-pub parts-of-asks : (text : List ℕ) (a b : ℕ) (F : Family) (n k : ℕ) → Found text 0 32 a → Found text (a + 1) 32 b → (o : Asks text F n k) → Parts text a b (nameOf F) (o .first) (o .second)
+pub parts-of-asks : (text : List ℕ) (a b : ℕ) (F : Family) (n k : ℕ) → Found text 0 32 a → Found text (a + 1) 32 b → (o : AsksWords text F n k) → Parts text a b (nameOf F) (o .first) (o .second)
 parts-of-asks text a b F n k f g o =
     subst (λ (s : List ℕ). Parts s a b (nameOf F) (o .first) (o .second)) (sym (o .whole))
     (parts-of-whole (nameOf F) (o .first) (o .second) a b (name-solid F) (numeral-solid (o .first) n (o .first-writes))
     (subst (λ (s : List ℕ). Found s 0 32 a) (o .whole) f) (subst (λ (s : List ℕ). Found s (a + 1) 32 b) (o .whole) g))
 
 -- a line that asks for words has a space
-pub space-of-asks : (text : List ℕ) (a : ℕ) (F : Family) (n k : ℕ) → Found text 0 32 a → Asks text F n k → a < length text
+pub space-of-asks : (text : List ℕ) (a : ℕ) (F : Family) (n k : ℕ) → Found text 0 32 a → AsksWords text F n k → a < length text
 space-of-asks text a F n k f o =
     let rest = o .first ++ (32 ∷ o .second) in
     let at-a : a ≡ length (nameOf F) = found-first (nameOf F) rest 32 a (name-solid F) (subst (λ (s : List ℕ). Found s 0 32 a) (o .whole) f) in
@@ -129,7 +129,7 @@ module _ (text : List ℕ) (a b : ℕ) (f : Found text 0 32 a) (g : Found text (
       subst (Reads part-3) e h k (o .second-fits) (subst (λ (w : List ℕ). Numeral w k) (sym (parts-of-asks text a b F n k f g o .second)) (o .second-writes))
 
   pub all-parts : (r : Named) (x y : Number) (F : Family) (n k : ℕ) → (a ≡ length text → ⊥) → (b ≡ length text → ⊥) → r ≡ named.Family F → Names part-1 r
-      → x ≡ number.Is n → Reads part-2 x → y ≡ number.Is k → Reads part-3 y → Asks text F n k
+      → x ≡ number.Is n → Reads part-2 x → y ≡ number.Is k → Reads part-3 y → AsksWords text F n k
   all-parts r x y F n k p q e h e₂ h₂ e₃ h₃ =
       let first-says = subst (Reads part-2) e₂ h₂ in
       let second-says = subst (Reads part-3) e₃ h₃ in

@@ -20,7 +20,7 @@ use Rattle.text.specs.Numeral.{IsDigit, valueFrom, Numeral}
 use Rattle.text.proofs.Numeral.{numeral-within}
 use Rattle.terms_line.specs.declared.Line.{Line}
 use Rattle.terms_line.specs.declared.Line.the-variants as line
-use Rattle.terms_line.specs.Line.{Asks, Parses, firstLine, longest, Settled, ended, newline, long, Answers}
+use Rattle.terms_line.specs.Line.{AsksWords, Parses, firstLine, lineLimit, Settled, ended, newline, long, Answers}
 
 -- ---- the longest line
 
@@ -28,7 +28,7 @@ name-within : (F : Family) → length (nameOf F) ≤ 9
 name-within Forbidden = omega arith
 name-within Allowed = omega arith
 
-pub longest-line : (text : List ℕ) (F : Family) (n k : ℕ) → Asks text F n k → length text ≤ longest
+pub longest-line : (text : List ℕ) (F : Family) (n k : ℕ) → AsksWords text F n k → length text ≤ lineLimit
 longest-line text F n k o =
     omega (
       arith,
@@ -41,8 +41,8 @@ longest-line text F n k o =
     )
 
 -- the numeral of 2 ^ 64 - 1
-abbrev pub largest : List ℕ
-largest = 49 ∷ 56 ∷ 52 ∷ 52 ∷ 54 ∷ 55 ∷ 52 ∷ 52 ∷ 48 ∷ 55 ∷ 51 ∷ 55 ∷ 48 ∷ 57 ∷ 53 ∷ 53 ∷ 49 ∷ 54 ∷ 49 ∷ 53 ∷ []
+abbrev pub largestNumeral : List ℕ
+largestNumeral = 49 ∷ 56 ∷ 52 ∷ 52 ∷ 54 ∷ 55 ∷ 52 ∷ 52 ∷ 48 ∷ 55 ∷ 51 ∷ 55 ∷ 48 ∷ 57 ∷ 53 ∷ 53 ∷ 49 ∷ 54 ∷ 49 ∷ 53 ∷ []
 
 abbrev Digits : List ℕ → Type 0
 Digits [] = Unit {0}
@@ -53,21 +53,21 @@ digits-at [] d k l = absurd (omega arith)
 digits-at (b ∷ w) d zero l = d .0
 digits-at (b ∷ w) d (suc k) l = digits-at w (d .1) k (le-of-suc-le-suc l)
 
-largest-writes : Numeral largest (2 ^ 64 - 1)
+largest-writes : Numeral largestNumeral (2 ^ 64 - 1)
 unfolding valueFrom
-largest-writes = record { some = omega arith; digits = digits-at largest (search needs); plain = λ l e. omega (arith, e); value = refl }
+largest-writes = record { some = omega arith; digits = digits-at largestNumeral (search needs); plain = λ l e. omega (arith, e); value = refl }
 
 abbrev longestLine : List ℕ
-longestLine = nameOf Forbidden ++ (32 ∷ (largest ++ (32 ∷ largest)))
+longestLine = nameOf Forbidden ++ (32 ∷ (largestNumeral ++ (32 ∷ largestNumeral)))
 
-pub longest-is-asked : Asks longestLine Forbidden (2 ^ 64 - 1) (2 ^ 64 - 1) × (length longestLine ≡ longest)
+pub longest-is-asked : AsksWords longestLine Forbidden (2 ^ 64 - 1) (2 ^ 64 - 1) × (length longestLine ≡ lineLimit)
 longest-is-asked = (
-  record { first = largest; second = largest; whole = refl; first-writes = largest-writes; first-fits = omega arith; second-writes = largest-writes; second-fits = omega arith },
+  record { first = largestNumeral; second = largestNumeral; whole = refl; first-writes = largest-writes; first-fits = omega arith; second-writes = largest-writes; second-fits = omega arith },
   refl,
 )
 
 -- two lines that are longer than every good one ask for the same
-too-long : (s t : List ℕ) (r : Line) → longest < length s → longest < length t → Parses s r → Parses t r
+too-long : (s t : List ℕ) (r : Line) → lineLimit < length s → lineLimit < length t → Parses s r → Parses t r
 too-long s t (line.Words F n k) h l p = absurd (omega (arith, longest-line s F n k p))
 too-long s t line.Bad h l p = λ F n k o. omega (arith, longest-line t F n k o)
 

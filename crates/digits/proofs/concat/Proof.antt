@@ -4,7 +4,7 @@ use Prim.Native.Nat.{_+_, _^_}
 use native.Mathlib.Omega.{arith}
 use borrow.Author.Tests.{lt-ltb, le-ltb, eq-eqb, ne-eqb}
 use Rattle.answers.specs.Says.{answerSays}
-use Rattle.digits.specs.Rules.{given, joinSays}
+use Rattle.digits.specs.Rules.{given, digitJoinSays}
 use Rattle.cartesian.proofs.Fits.{fits-given, fits-refused}
 use Rattle.digits.proofs.Rules.{known, given-passed, given-refused}
 use Rattle.digits.proofs.Joining.{concat-passed, joint-rank, joined-given}
@@ -31,7 +31,7 @@ returns : tie.Need-returns
 returns c = search needs
 
 returns-2 : tie.Need-returns-2
-returns-2 c = sym (given-refused (c .before .before .before .before .before .before .before .args .x) _ _ (given (c .before .before .before .before .before .before .before .args .y) (joinSays (c .before .before .before .before .before .before .before .args .x) (c .before .before .before .before .before .before .before .args .y))) (sym (ap answerSays (c .before .before .before .before .a2 .given .1 ∙ c .before .a3 .given .1)) ∙ c .before .before .before .before .before .before .check .ensures))
+returns-2 c = sym (given-refused (c .before .before .before .before .before .before .before .args .x) _ _ (given (c .before .before .before .before .before .before .before .args .y) (digitJoinSays (c .before .before .before .before .before .before .before .args .x) (c .before .before .before .before .before .before .before .args .y))) (sym (ap answerSays (c .before .before .before .before .a2 .given .1 ∙ c .before .a3 .given .1)) ∙ c .before .before .before .before .before .before .check .ensures))
 
 check-requires-2 : tie.Need-check-requires-2
 check-requires-2 c κs = search needs
@@ -55,7 +55,7 @@ returns-4 : tie.Need-returns-4
 returns-4 c =
     let x = c .before .before .before .before .before .before .before .before .before .before .before .args .x in
     let y = c .before .before .before .before .before .before .before .before .before .before .before .args .y in
-    sym (given-passed x _ (given y (joinSays x y)) (sym (ap answerSays (c .before .before .before .before .before .before .before .before .a .given .1)) ∙ c .before .before .before .before .before .before .before .before .before .before .check .ensures) ∙ given-refused y _ _ (joinSays x y) (sym (ap answerSays (c .before .before .before .before .b .given .1 ∙ c .before .b2 .given .1)) ∙ c .before .before .before .before .before .before .check2 .ensures))
+    sym (given-passed x _ (given y (digitJoinSays x y)) (sym (ap answerSays (c .before .before .before .before .before .before .before .before .a .given .1)) ∙ c .before .before .before .before .before .before .before .before .before .before .check .ensures) ∙ given-refused y _ _ (digitJoinSays x y) (sym (ap answerSays (c .before .before .before .before .b .given .1 ∙ c .before .b2 .given .1)) ∙ c .before .before .before .before .before .before .check2 .ensures))
 
 returns-5 : tie.Need-returns-5
 returns-5 c =

@@ -1,7 +1,7 @@
 -- `digits::stabilizer` meets its contract: the symbols are written into a buffer and multiplied up. Assumes nothing.
 use mathlib.Core.Path.{sym, ap, _∙_}
 use Rattle.answers.specs.Says.{answerSays}
-use Rattle.cartesian.specs.Checks.{fits}
+use Rattle.cartesian.specs.Checks.{numberSays}
 use Rattle.deletion.specs.Multiplicities.{stabilizerOf}
 use Rattle.digits.specs.Rules.{symbolsOf}
 use Rattle.digits.proofs.Rules.{given-passed, given-refused}
@@ -25,7 +25,7 @@ enum-told c = search needs
 returns : tie.Need-returns
 returns c =
     let x = c .before .before .before .before .before .args .x in
-    ap answerSays (c .enum-told .given .1) ∙ sym (given-refused x _ _ (fits (stabilizerOf (symbolsOf x))) (unspelt x _ _ (sym (ap answerSays (c .enum-told .given .1)) ∙ c .before .before .before .symbols .ensures .0)))
+    ap answerSays (c .enum-told .given .1) ∙ sym (given-refused x _ _ (numberSays (stabilizerOf (symbolsOf x))) (unspelt x _ _ (sym (ap answerSays (c .enum-told .given .1)) ∙ c .before .before .before .symbols .ensures .0)))
 
 slice-aggregate-stabilizer-of : tie.Need-slice-aggregate-stabilizer-of
 slice-aggregate-stabilizer-of c = search needs
@@ -37,7 +37,7 @@ returns-2 : tie.Need-returns-2
 returns-2 c =
     let x = c .before .before .before .before .before .before .before .before .args .x in
     let b = spelt x _ _ _ (sym (ap answerSays (c .before .before .before .a .given .1)) ∙ c .before .before .before .before .before .before .symbols .ensures .0) (c .before .before .before .before .before .before .symbols .ensures .1) in
-    c .stabilizer-of .ensures ∙ ap (λ w. fits (stabilizerOf w)) (b .front) ∙ sym (given-passed x (b .count) (fits (stabilizerOf (symbolsOf x))) (b .checks))
+    c .stabilizer-of .ensures ∙ ap (λ w. numberSays (stabilizerOf w)) (b .front) ∙ sym (given-passed x (b .count) (numberSays (stabilizerOf (symbolsOf x))) (b .checks))
 
 pub stabilizer-spec : {M : Type 1} → statement M
 stabilizer-spec =

@@ -2,23 +2,23 @@
 use mathlib.Core.Path.{sym, _∙_}
 use borrow.Author.Needs.{needs}
 use borrow.Author.Tests.{lt-ltb, le-ltb}
-use Rattle.permutation.specs.Rules.{taken}
+use Rattle.permutation.specs.Rules.{takenArrangement}
 use Rattle.permutation.proofs.checked.Statement.{statement}
 use Rattle.permutation.proofs.checked.Tie as tie
 
 returns : tie.Need-returns
-unfolding taken
+unfolding takenArrangement
 returns c = simp (lt-ltb _ _ (c .if1 .taken))
 
 is-good-requires : tie.Need-is-good-requires
 is-good-requires c κs = search needs
 
 returns-2 : tie.Need-returns-2
-unfolding taken
+unfolding takenArrangement
 returns-2 c = simp (le-ltb _ _ (c .before .before .before .before .if1 .left), sym (c .before .is-good .ensures) ∙ c .if2 .taken)
 
 returns-3 : tie.Need-returns-3
-unfolding taken
+unfolding takenArrangement
 returns-3 c = simp (le-ltb _ _ (c .before .before .before .before .if1 .left), sym (c .before .is-good .ensures) ∙ c .if2 .left)
 
 pub checked-spec : {M : Type 1} → statement M

@@ -3,7 +3,7 @@ use mathlib.Core.Path.{sym, _∙_}
 use borrow.Author.Tests.{lt-ltb, le-ltb, eq-eqb, ne-eqb, not-true, not-false}
 use borrow.Author.Needs.{needs}
 use Rattle.arrangements.specs.Permutation.{compose}
-use Rattle.permutation.specs.Record.{wordOf}
+use Rattle.permutation.specs.Record.{arrangementOf}
 use Rattle.permutation.proofs.Taken.{tested-holds}
 use Rattle.permutation.proofs.Arranging.{arranges-refusal, arranges-given}
 use Rattle.permutation_group.proofs.compose.Statement.{statement}
@@ -78,7 +78,7 @@ given-requires c κs = search needs
 returns-6 : tie.Need-returns-6
 returns-6 c =
     let s = c .before .before .before .before .before .before .before .before .before .before .before .before .before in
-    arranges-given _ _ _ (compose (wordOf (s .args .p)) (wordOf (s .args .q))) (c .given .ensures) (c .before .composed .ensures)
+    arranges-given _ _ _ (compose (arrangementOf (s .args .p)) (arrangementOf (s .args .q))) (c .given .ensures) (c .before .composed .ensures)
     (simp (
       le-ltb _ _ (c .before .before .before .before .before .before .before .before .before .before .before .before .if1 .left),
       le-ltb _ _ (c .before .before .before .before .before .before .before .before .before .before .before .if2 .left),

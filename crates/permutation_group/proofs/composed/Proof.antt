@@ -7,27 +7,27 @@ use Rattle.arrangements.specs.Permutation.{compose}
 use Rattle.arrangements.proofs.Group.{compose-at, compose-long}
 use Rattle.answers.proofs.Lent.{Filled, fill-none, fill-more}
 use Rattle.permutation.specs.declared.Permutation.{Permutation}
-use Rattle.permutation.specs.Record.{wordOf, zeros, Holds}
+use Rattle.permutation.specs.Record.{arrangementOf, emptyEntries, GoodRecord}
 use Rattle.permutation.proofs.Taken.{word-at, holds-below}
 use Rattle.permutation.proofs.Filled.{at, filled-record}
 use Rattle.permutation_group.proofs.composed.Statement.{statement}
 use Rattle.permutation_group.proofs.composed.Tie as tie
 
 abbrev Inv-loop : tie.InvT-loop
-Inv-loop p q n out₀ i₀ out i = (i ≤ n) × Filled (at (compose (wordOf p) (wordOf q))) zeros out i
+Inv-loop p q n out₀ i₀ out i = (i ≤ n) × Filled (at (compose (arrangementOf p) (arrangementOf q))) emptyEntries out i
 
 abbrev μ-loop : tie.MeasureT-loop
 μ-loop p q n out₀ i₀ out i = n - i
 
-compose-entry : (p q : Permutation) → Holds p → Holds q → p .len ≡ q .len → (i : ℕ) → i < p .len
-    → getD (p .entries) (getD (q .entries) i 0) 0 ≡ getD (compose (wordOf p) (wordOf q)) i 0
+compose-entry : (p q : Permutation) → GoodRecord p → GoodRecord q → p .len ≡ q .len → (i : ℕ) → i < p .len
+    → getD (p .entries) (getD (q .entries) i 0) 0 ≡ getD (compose (arrangementOf p) (arrangementOf q)) i 0
 compose-entry p q f g e i l =
     sym (word-at p (getD (q .entries) i 0) (omega (arith, holds-below q g i (omega arith))))
-    ∙ ap (λ (j : ℕ). getD (wordOf p) j 0) (sym (word-at q i (omega arith)))
-    ∙ sym (compose-at (wordOf p) (wordOf q) i (omega (arith, g .permutation .long)))
+    ∙ ap (λ (j : ℕ). getD (arrangementOf p) j 0) (sym (word-at q i (omega arith)))
+    ∙ sym (compose-at (arrangementOf p) (arrangementOf q) i (omega (arith, g .permutation .long)))
 
 loop-holds : tie.Need-loop-holds Inv-loop μ-loop
-loop-holds c = (omega arith, fill-none (at (compose (wordOf (c .args .t1)) (wordOf (c .args .t2)))) zeros)
+loop-holds c = (omega arith, fill-none (at (compose (arrangementOf (c .args .t1)) (arrangementOf (c .args .t2)))) emptyEntries)
 
 mul-j : tie.Need-mul-j Inv-loop μ-loop
 mul-j c = omega (arith, c .before .before .pre .left .short)
@@ -62,7 +62,7 @@ loop-again c =
     let s = c .before .before .before .before in
     let l = c .before .before .before .loop in (
       omega arith,
-      fill-more (at (compose (wordOf (s .args .t1)) (wordOf (s .args .t2)))) zeros (l .out) (l .i) _ (omega (arith, s .pre .left .short))
+      fill-more (at (compose (arrangementOf (s .args .t1)) (arrangementOf (s .args .t2)))) emptyEntries (l .out) (l .i) _ (omega (arith, s .pre .left .short))
           (compose-entry (s .args .t1) (s .args .t2) (s .pre .left) (s .pre .right) (s .pre .lengths) (l .i) (c .before .before .loop-test .taken)) (l .inv .1),
     )
 
@@ -70,8 +70,8 @@ returns : tie.Need-returns Inv-loop μ-loop
 returns c =
     let s = c .before .before in
     let l = c .before .loop in
-    filled-record (compose (wordOf (s .args .t1)) (wordOf (s .args .t2))) (l .out) (l .i) (s .args .t1 .len) (l .inv .1) (omega arith)
-    (compose-long (wordOf (s .args .t1)) (wordOf (s .args .t2)) ∙ s .pre .right .permutation .long ∙ sym (s .pre .lengths)) (s .pre .left .short)
+    filled-record (compose (arrangementOf (s .args .t1)) (arrangementOf (s .args .t2))) (l .out) (l .i) (s .args .t1 .len) (l .inv .1) (omega arith)
+    (compose-long (arrangementOf (s .args .t1)) (arrangementOf (s .args .t2)) ∙ s .pre .right .permutation .long ∙ sym (s .pre .lengths)) (s .pre .left .short)
 
 pub composed-spec : {M : Type 1} → statement M
 composed-spec =

@@ -1,7 +1,7 @@
 -- `permutation_group::inverse` meets its contract: the refusal of the check is passed on, and the inverse is given. Assumes nothing.
 use borrow.Author.Needs.{needs}
 use Rattle.arrangements.specs.Permutation.{inverse}
-use Rattle.permutation.specs.Record.{wordOf}
+use Rattle.permutation.specs.Record.{arrangementOf}
 use Rattle.permutation_group.specs.Rules.{inverseSays}
 use Rattle.permutation.proofs.Taken.{taken-holds, verdict-refuses, verdict-gives}
 use Rattle.permutation.proofs.Arranging.{arranges-refusal, arranges-given}
@@ -35,7 +35,7 @@ returns c =
 returns-2 : tie.Need-returns-2
 returns-2 c =
     let p = c .before .before .before .before .before .args .p in
-    arranges-given (inverseSays p) _ _ (inverse (wordOf p)) (c .given .ensures) (c .before .inverted .ensures)
+    arranges-given (inverseSays p) _ _ (inverse (arrangementOf p)) (c .given .ensures) (c .before .inverted .ensures)
     (simp (taken-holds p (verdict-gives p _ (c .before .before .before .before .checked .ensures) (c .before .before .enum-told .given .1) (search needs))))
 
 pub inverse-spec : {M : Type 1} → statement M

@@ -2,13 +2,13 @@
 use Prim.Native.Nat.{_-_, _<_}
 use native.Mathlib.Omega.{arith}
 use Rattle.arrangements.specs.Step.{Rises}
-use Rattle.permutation.specs.Record.{wordOf}
+use Rattle.permutation.specs.Record.{arrangementOf}
 use Rattle.permutation_order.proofs.Searching.{fall-here, no-fall-here, no-fall}
 use Rattle.permutation_order.proofs.first_fall.Statement.{statement}
 use Rattle.permutation_order.proofs.first_fall.Tie as tie
 
 abbrev Inv-loop : tie.InvT-loop
-Inv-loop p n k₀ k = (0 < k) × Rises (wordOf p) k
+Inv-loop p n k₀ k = (0 < k) × Rises (arrangementOf p) k
 
 abbrev μ-loop : tie.MeasureT-loop
 μ-loop p n k₀ k = n - k

@@ -7,14 +7,14 @@ use lib.ListN.{getD}
 use Rattle.arrangements.specs.Step.{turn, exchange, source, step}
 use Rattle.arrangements.proofs.Next.{step-at, step-long, source-below}
 use Rattle.answers.proofs.Lent.{Filled, fill-none, fill-more}
-use Rattle.permutation.specs.Record.{zeros, wordOf}
+use Rattle.permutation.specs.Record.{emptyEntries, arrangementOf}
 use Rattle.permutation.proofs.Taken.{word-at}
 use Rattle.permutation.proofs.Filled.{at, filled-record}
 use Rattle.permutation_order.proofs.stepped.Statement.{statement}
 use Rattle.permutation_order.proofs.stepped.Tie as tie
 
 abbrev Inv-loop : tie.InvT-loop
-Inv-loop i k p n out₀ j₀ out j = (j ≤ n) × Filled (at (step i k (wordOf p))) zeros out j
+Inv-loop i k p n out₀ j₀ out j = (j ≤ n) × Filled (at (step i k (arrangementOf p))) emptyEntries out j
 
 abbrev μ-loop : tie.MeasureT-loop
 μ-loop i k p n out₀ j₀ out j = n - j
@@ -24,7 +24,7 @@ unfolding source
 from-source i k j a b p q = q ∙ ap (exchange i k) p
 
 loop-holds : tie.Need-loop-holds Inv-loop μ-loop
-loop-holds c = (omega arith, fill-none (at (step (c .args .i) (c .args .k) (wordOf (c .args .t1)))) zeros)
+loop-holds c = (omega arith, fill-none (at (step (c .args .i) (c .args .k) (arrangementOf (c .args .t1)))) emptyEntries)
 
 turned-requires : tie.Need-turned-requires Inv-loop μ-loop
 turned-requires c κs = search needs
@@ -67,9 +67,9 @@ loop-again c =
     let e = from-source (s .args .i) (s .args .k) (l .j) _ _ (c .before .before .turned .ensures) (c .before .exchanged .ensures) in
     let inside = source-below (p .len) (s .args .i) (s .args .k) (l .j) (s .pre .1) (s .pre .2) h in (
       omega arith,
-      fill-more (at (step (s .args .i) (s .args .k) (wordOf p))) zeros (l .out) (l .j) _ (omega (arith, s .pre .0 .short))
+      fill-more (at (step (s .args .i) (s .args .k) (arrangementOf p))) emptyEntries (l .out) (l .j) _ (omega (arith, s .pre .0 .short))
           (ap (λ (x : ℕ). getD (p .entries) x 0) e ∙ sym (word-at p (source (s .args .i) (s .args .k) (l .j)) inside)
-          ∙ sym (step-at (s .args .i) (s .args .k) (wordOf p) (l .j) (omega (arith, s .pre .0 .permutation .long))))
+          ∙ sym (step-at (s .args .i) (s .args .k) (arrangementOf p) (l .j) (omega (arith, s .pre .0 .permutation .long))))
           (l .inv .1),
     )
 
@@ -77,8 +77,8 @@ returns : tie.Need-returns Inv-loop μ-loop
 returns c =
     let s = c .before .before in
     let l = c .before .loop in
-    filled-record (step (s .args .i) (s .args .k) (wordOf (s .args .t1))) (l .out) (l .j) (s .args .t1 .len) (l .inv .1) (omega arith)
-    (step-long (s .args .i) (s .args .k) (wordOf (s .args .t1)) ∙ s .pre .0 .permutation .long) (s .pre .0 .short)
+    filled-record (step (s .args .i) (s .args .k) (arrangementOf (s .args .t1))) (l .out) (l .j) (s .args .t1 .len) (l .inv .1) (omega arith)
+    (step-long (s .args .i) (s .args .k) (arrangementOf (s .args .t1)) ∙ s .pre .0 .permutation .long) (s .pre .0 .short)
 
 pub stepped-spec : {M : Type 1} → statement M
 stepped-spec =

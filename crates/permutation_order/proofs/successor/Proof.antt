@@ -5,11 +5,11 @@ use native.Mathlib.Omega.{arith}
 use borrow.Author.Tests.{le-leb, lt-leb}
 use borrow.Author.Needs.{needs}
 use Rattle.words.specs.Factorial.{factorial}
-use Rattle.arrangements.specs.Rank.{rankOf, unrankOf}
+use Rattle.arrangements.specs.Rank.{arrangementRank, arrangementUnrank}
 use Rattle.arrangements.proofs.Next.{step-has-room, step-is-next}
-use Rattle.permutation.specs.Record.{wordOf, recordOf}
+use Rattle.permutation.specs.Record.{arrangementOf, recordOf}
 use Rattle.permutation.proofs.Arranging.{arranges-refusal, arranges-given}
-use Rattle.permutation_order.specs.Rules.{successorSays}
+use Rattle.permutation_order.specs.Rules.{arrangementSuccessorSays}
 use Rattle.permutation_order.proofs.Numbering.{ordered-numbered, numbered-refuses, numbered-gives}
 use Rattle.permutation_order.proofs.Searching.{no-next, next-places}
 use Rattle.permutation_order.proofs.successor.Statement.{statement}
@@ -38,7 +38,7 @@ returns c =
     let p = c .before .before .before .before .before .before .args .p in
     let h = numbered-gives p _ (c .before .before .before .before .before .numbered .ensures) (c .before .before .before .enum-told .given .1) (search needs) in
     let e = no-next p (h .holds) _ (c .before .before .first-fall .ensures) (c .before .if1 .taken) in
-    arranges-refusal _ _ _ (c .refused2 .ensures) (simp (ordered-numbered p h, le-leb (factorial (p .len)) (suc (rankOf (wordOf p))) (omega (arith, e))))
+    arranges-refusal _ _ _ (c .refused2 .ensures) (simp (ordered-numbered p h, le-leb (factorial (p .len)) (suc (arrangementRank (arrangementOf p))) (omega (arith, e))))
 
 first-greater-requires : tie.Need-first-greater-requires
 first-greater-requires c κs =
@@ -59,7 +59,7 @@ given-requires c κs = search needs
 returns-2 : tie.Need-returns-2
 returns-2 c =
     let p = c .before .before .before .before .before .args .p in
-    arranges-refusal (successorSays p) _ _ (c .refused .ensures)
+    arranges-refusal (arrangementSuccessorSays p) _ _ (c .refused .ensures)
     (simp (numbered-refuses p _ (c .before .before .before .before .numbered .ensures) _ (c .before .before .e .given .1)))
 
 returns-3 : tie.Need-returns-3
@@ -67,10 +67,10 @@ returns-3 c =
     let p = c .before .before .before .before .before .before .before .before .args .p in
     let h = numbered-gives p _ (c .before .before .before .before .before .before .before .numbered .ensures) (c .before .before .before .before .before .enum-told .given .1) (search needs) in
     let f = next-places p (h .holds) _ (c .before .before .before .before .first-fall .ensures) (c .before .before .before .if1 .left) _ (c .before .before .first-greater .ensures) in
-    let room = step-has-room (p .len) (wordOf p) (h .holds .permutation) _ _ f in
-    let next = step-is-next (p .len) (wordOf p) (h .holds .permutation) _ _ f in
-    arranges-given _ _ _ (unrankOf (p .len) (suc (rankOf (wordOf p)))) (c .given .ensures) (c .before .stepped .ensures ∙ ap recordOf next)
-    (simp (ordered-numbered p h, lt-leb (factorial (p .len)) (suc (rankOf (wordOf p))) room))
+    let room = step-has-room (p .len) (arrangementOf p) (h .holds .permutation) _ _ f in
+    let next = step-is-next (p .len) (arrangementOf p) (h .holds .permutation) _ _ f in
+    arranges-given _ _ _ (arrangementUnrank (p .len) (suc (arrangementRank (arrangementOf p)))) (c .given .ensures) (c .before .stepped .ensures ∙ ap recordOf next)
+    (simp (ordered-numbered p h, lt-leb (factorial (p .len)) (suc (arrangementRank (arrangementOf p))) room))
 
 pub successor-spec : {M : Type 1} → statement M
 successor-spec =

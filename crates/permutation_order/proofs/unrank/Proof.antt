@@ -7,18 +7,18 @@ use borrow.Author.Tests.{lt-ltb, le-ltb, le-leb, lt-leb}
 use borrow.Author.Needs.{needs}
 use Rattle.words.specs.Pick.{pick}
 use Rattle.words.specs.Factorial.{factorial}
-use Rattle.arrangements.specs.Rank.{unrankOf}
+use Rattle.arrangements.specs.Rank.{arrangementUnrank}
 use Rattle.count.specs.Factorial.{factorialOf}
 use Rattle.permutation.specs.Record.{recordOf}
 use Rattle.permutation.proofs.Arranging.{arranges-refusal, arranges-given}
-use Rattle.permutation_order.specs.Rules.{longest}
+use Rattle.permutation_order.specs.Rules.{longestNumbered}
 use Rattle.permutation_order.proofs.Making.{made, made-all}
 use Rattle.permutation_order.proofs.unrank.Statement.{statement}
 use Rattle.permutation_order.proofs.unrank.Tie as tie
 
 -- up to the greatest length that is numbered the table has the factorial
-in-table : (n : ℕ) → n ≤ longest → factorialOf n ≡ factorial n
-in-table n h = ap (λ (t : Bool). pick t (factorial n) 0) (le-leb n longest h)
+in-table : (n : ℕ) → n ≤ longestNumbered → factorialOf n ≡ factorial n
+in-table n h = ap (λ (t : Bool). pick t (factorial n) 0) (le-leb n longestNumbered h)
 
 refused-requires : tie.Need-refused-requires
 refused-requires c κs = search needs
@@ -51,7 +51,7 @@ returns-3 c =
     let s = c .before .before .before .before .before in
     let f = c .before .before .before .factorial .ensures ∙ in-table (s .args .n) (c .before .before .before .before .if1 .left) in
     let h : s .args .r < factorial (s .args .n) = omega (arith, f, c .before .before .if2 .left) in
-    arranges-given _ _ _ (unrankOf (s .args .n) (s .args .r)) (c .given .ensures) (c .before .unranked .ensures ∙ ap recordOf (made-all (s .args .n) (s .args .r) h))
+    arranges-given _ _ _ (arrangementUnrank (s .args .n) (s .args .r)) (c .given .ensures) (c .before .unranked .ensures ∙ ap recordOf (made-all (s .args .n) (s .args .r) h))
     (simp (le-ltb _ _ (c .before .before .before .before .if1 .left), lt-leb (factorial (s .args .n)) (s .args .r) h))
 
 pub unrank-spec : {M : Type 1} → statement M

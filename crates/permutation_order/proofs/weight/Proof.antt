@@ -5,7 +5,7 @@ use native.Mathlib.Omega.{arith}
 use borrow.Author.Needs.{needs}
 use lib.ListN.{length, take}
 use Rattle.arrangements.specs.Rank.{rankBelow}
-use Rattle.permutation.specs.Record.{capacity, wordOf}
+use Rattle.permutation.specs.Record.{capacity, arrangementOf}
 use Rattle.permutation.proofs.Taken.{word-long}
 use Rattle.permutation_order.proofs.Weighing.{rank-turn, rank-fits}
 use Rattle.permutation_order.proofs.weight.Statement.{statement}
@@ -45,7 +45,7 @@ mul-sum c =
     let l = c .before .before .before .loop in
     let f = c .before .before .before .before .factorials .ensures .at (l .j) (omega arith) in
     let t = rank-turn (p .entries) (p .len) (l .j) (l .sum) _ _ (c .before .before .loop-test .taken) (l .inv .1) (c .smaller .ensures) f in
-    omega (arith, t, rank-fits (wordOf p) (l .j + 1) (omega arith))
+    omega (arith, t, rank-fits (arrangementOf p) (l .j + 1) (omega arith))
 
 add-sum : tie.Need-add-sum Inv-loop μ-loop
 add-sum c =
@@ -53,7 +53,7 @@ add-sum c =
     let l = c .before .before .before .loop in
     let f = c .before .before .before .before .factorials .ensures .at (l .j) (omega arith) in
     let t = rank-turn (p .entries) (p .len) (l .j) (l .sum) _ _ (c .before .before .loop-test .taken) (l .inv .1) (c .smaller .ensures) f in
-    omega (arith, t, rank-fits (wordOf p) (l .j + 1) (omega arith))
+    omega (arith, t, rank-fits (arrangementOf p) (l .j + 1) (omega arith))
 
 add-j : tie.Need-add-j Inv-loop μ-loop
 add-j c = omega arith
@@ -74,8 +74,8 @@ returns c =
     let p = c .before .before .before .before .args .p in
     let l = c .before .loop in
     let long : length (p .entries) ≡ capacity = search needs in
-    let e : l .j ≡ length (wordOf p) = omega (arith, word-long p long (omega arith)) in
-    l .inv .1 ∙ ap (rankBelow (wordOf p)) e
+    let e : l .j ≡ length (arrangementOf p) = omega (arith, word-long p long (omega arith)) in
+    l .inv .1 ∙ ap (rankBelow (arrangementOf p)) e
 
 pub weight-spec : {M : Type 1} → statement M
 weight-spec =

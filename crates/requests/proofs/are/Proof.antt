@@ -3,14 +3,14 @@ use mathlib.Core.Path.{_≡_}
 use Prim.Native.Nat.{_-_, _≤_}
 use native.Mathlib.Omega.{arith}
 use lib.ListN.{length, drop}
-use Rattle.requests.specs.Patterns.{fits, fitsFrom}
+use Rattle.requests.specs.Patterns.{fitsPattern, fitsFrom}
 use Rattle.requests.proofs.Fitting.{no-letter-passed, letter-passed, letters-passed}
 use borrow.Author.Needs.{needs}
 use Rattle.requests.proofs.are.Statement.{statement}
 use Rattle.requests.proofs.are.Tie as tie
 
 abbrev Inv-loop : tie.InvT-loop
-Inv-loop kinds pattern i₀ j₀ i j = (j ≤ length pattern) × (fits pattern kinds ≡ fitsFrom (drop j pattern) kinds i)
+Inv-loop kinds pattern i₀ j₀ i j = (j ≤ length pattern) × (fitsPattern pattern kinds ≡ fitsFrom (drop j pattern) kinds i)
 
 abbrev μ-loop : tie.MeasureT-loop
 μ-loop kinds pattern i₀ j₀ i j = length pattern - j

@@ -1,6 +1,6 @@
 use mathlib.Core.Path.{_∙_, ap}
 use borrow.Author.Needs.{needs}
-use Rattle.permutation_order.specs.Rules.{successorSays}
+use Rattle.permutation_order.specs.Rules.{arrangementSuccessorSays}
 use Rattle.boundary.specs.Boundary.{status}
 use Rattle.capi.proofs.Entries.{told-of, stored-part}
 use Rattle.capi.proofs.permutations.gudrenoss_permutation_successor.Statement.{statement}
@@ -17,7 +17,7 @@ arranged-requires c κs = search needs
 
 returns : tie.Need-returns
 returns c =
-    let h = told-of successorSays _ _ _ (c .before .before .before .before .lent .ensures) (c .before .before .before .successor .ensures) in (
+    let h = told-of arrangementSuccessorSays _ _ _ (c .before .before .before .before .lent .ensures) (c .before .before .before .successor .ensures) in (
       c .arranged .ensures .0 ∙ ap (λ s. status s) (h .says),
       (c .arranged .ensures .1 .0 ∙ stored-part (λ p. p .entries) _ _ _ h, c .arranged .ensures .1 .1 ∙ stored-part (λ p. p .len) _ _ _ h),
     )
