@@ -3,22 +3,16 @@
 // every record that they take, and write to places of the caller's. Both sides are functions that are not inlined.
 //
 //   sample     permutations of a length, from a fixed seed
-//   race       the least time of each side over a number of rounds, in turns, after both gave the same answers
+//   run        one call raced at one length (race.rs)
+
+mod race;
 
 use multiindex::{Permutation, Sign};
-use std::time::{Duration, Instant};
+use race::{Random, Status};
 
 const SIZE: usize = 256;
 const TURNS: usize = 100;
-const ROUNDS: usize = 15;
 const CAPACITY: usize = 64;
-
-// What comes back over the C boundary: a refusal's number, 0 for an answer, and its place.
-#[repr(C)]
-struct Status {
-    number: u64,
-    at: u64,
-}
 
 #[link(name = "capi", kind = "static")]
 unsafe extern "C" {
@@ -101,13 +95,8 @@ fn theirs(call: Call, p: &Permutation, q: &Permutation) -> u64 {
 // ---- the inputs and the race
 
 fn sample(n: usize) -> Vec<Vec<usize>> {
-    let mut state = 0x9E37_79B9_7F4A_7C15u64;
-    let mut below = |k: usize| {
-        state ^= state << 13;
-        state ^= state >> 7;
-        state ^= state << 17;
-        (state % k as u64) as usize
-    };
+    let mut random = Random::new();
+    let mut below = |k: usize| (random.next() % k as u64) as usize;
     let mut shuffled = || {
         let mut p: Vec<usize> = (0..n).collect();
         (1..n).rev().for_each(|i| p.swap(i, below(i + 1)));
@@ -122,37 +111,32 @@ fn record(p: &[usize]) -> Record {
     Record { entries, len: p.len() as u64 }
 }
 
-fn timed(mut call: impl FnMut(usize) -> u64) -> (Duration, u64) {
-    let start = Instant::now();
-    let mut sum = 0u64;
-    for i in 0..TURNS * SIZE {
-        sum = sum.wrapping_mul(31).wrapping_add(call(i % SIZE));
-    }
-    (start.elapsed(), sum)
-}
-
-fn race(name: &str, call: Call, n: usize) {
+fn run(name: &str, call: Call, n: usize) {
     let drawn = sample(n);
     let records: Vec<_> = drawn.iter().map(|p| record(p)).collect();
     let vectors: Vec<_> = drawn.iter().map(|p| Permutation::new(p.iter().copied())).collect();
     let mut out = record(&[]);
-    let (mut here, mut there) = (Duration::MAX, Duration::MAX);
-    for _ in 0..ROUNDS {
-        let (a, ours_said) = timed(|i| ours(call, &records[i], &records[SIZE - 1 - i], &mut out));
-        let (b, theirs_said) = timed(|i| theirs(call, &vectors[i], &vectors[SIZE - 1 - i]));
-        assert_eq!(ours_said, theirs_said, "orders: the answers differ: {name}, {n}");
-        here = here.min(a);
-        there = there.min(b);
-    }
-    let each = |d: Duration| d.as_secs_f64() * 1e9 / (TURNS * SIZE) as f64;
-    println!("{name:12} {n:>6} {:>10.1} {:>10.1} {:>8.2}", each(here), each(there), each(here) / each(there));
+    let both = |i: usize| (i % SIZE, SIZE - 1 - i % SIZE);
+    let times = race::least(
+        &format!("{name}, {n}"),
+        TURNS * SIZE,
+        |i| {
+            let (p, q) = both(i);
+            ours(call, &records[p], &records[q], &mut out)
+        },
+        |i| {
+            let (p, q) = both(i);
+            theirs(call, &vectors[p], &vectors[q])
+        },
+    );
+    race::row(name, &n.to_string(), TURNS * SIZE, times);
 }
 
 fn main() {
-    println!("{:12} {:>6} {:>10} {:>10} {:>8}", "call", "length", "here, ns", "Rust, ns", "ratio");
+    race::head("call", "length");
     for (name, call) in [("image", Call::Image), ("sign", Call::Sign), ("inverse", Call::Inverse), ("composition", Call::Compose)] {
         for n in [4, 20, 64] {
-            race(name, call, n);
+            run(name, call, n);
         }
     }
 }

@@ -4,20 +4,14 @@
 //
 //   sample     two hundred thousand numbers with so many ones, from a fixed seed
 //   drawn      two hundred thousand ranks below a number, drawn evenly, from a fixed seed
-//   race       the least time of each side over a number of rounds, in turns, after both gave the same answers
+//   run        one call raced over a list of inputs (race.rs)
+
+mod race;
 
 use multiindex::{Combination, MonoIndex, Repetition};
-use std::time::{Duration, Instant};
+use race::{Random, Status};
 
 const SIZE: usize = 200_000;
-const ROUNDS: usize = 15;
-
-// What comes back over the C boundary: a refusal's number, 0 for an answer, and its place.
-#[repr(C)]
-struct Status {
-    number: u64,
-    at: u64,
-}
 
 const ANSWER: Status = Status { number: 0, at: 0 };
 const LAST: Status = Status { number: 4, at: 0 };
@@ -72,20 +66,9 @@ extern "C" fn their_unrank_over(allowed: bool, n: u64, k: u64, r: u64, alphabet:
 
 // ---- the inputs
 
-struct Random(u64);
-
-impl Random {
-    fn next(&mut self) -> u64 {
-        self.0 ^= self.0 << 13;
-        self.0 ^= self.0 >> 7;
-        self.0 ^= self.0 << 17;
-        self.0
-    }
-}
-
 // Numbers with as many ones as the degrees say in turn.
 fn sample(degrees: &[u64]) -> Vec<(u64, u64)> {
-    let mut random = Random(0x9E37_79B9_7F4A_7C15);
+    let mut random = Random::new();
     let of_degree = |k: u64, random: &mut Random| {
         let mut bits = 0u64;
         while bits.count_ones() < k as u32 {
@@ -97,40 +80,28 @@ fn sample(degrees: &[u64]) -> Vec<(u64, u64)> {
 }
 
 fn drawn(k: u64, count: u64) -> Vec<(u64, u64)> {
-    let mut random = Random(0x9E37_79B9_7F4A_7C15);
+    let mut random = Random::new();
     (0..SIZE).map(|_| (k, random.next() % count)).collect()
 }
 
 // ---- the race
 
-fn timed(call: impl Fn(u64, u64, &mut u64, &mut u64) -> Status, inputs: &[(u64, u64)]) -> (Duration, u64) {
-    let start = Instant::now();
-    let mut sum = 0u64;
-    for &(a, b) in inputs {
-        let (mut alphabet, mut out) = (0, 0);
-        let back = call(a, b, &mut alphabet, &mut out);
-        sum = sum.wrapping_mul(31).wrapping_add(back.number).wrapping_add(back.at).wrapping_add(alphabet).wrapping_add(out);
-    }
-    (start.elapsed(), sum)
+// What one call of one side says, in one number.
+fn said(call: &impl Fn(u64, u64, &mut u64, &mut u64) -> Status, (a, b): (u64, u64)) -> u64 {
+    let (mut alphabet, mut out) = (0, 0);
+    let back = call(a, b, &mut alphabet, &mut out);
+    back.number.wrapping_add(back.at).wrapping_add(alphabet).wrapping_add(out)
 }
 
-fn race(
+fn run(
     name: &str,
     group: &str,
     inputs: &[(u64, u64)],
     ours: impl Fn(u64, u64, &mut u64, &mut u64) -> Status,
     theirs: impl Fn(u64, u64, &mut u64, &mut u64) -> Status,
 ) {
-    let (mut here, mut there) = (Duration::MAX, Duration::MAX);
-    for _ in 0..ROUNDS {
-        let (a, ours_said) = timed(&ours, inputs);
-        let (b, theirs_said) = timed(&theirs, inputs);
-        assert_eq!(ours_said, theirs_said, "speed: the answers differ: {name}, {group}");
-        here = here.min(a);
-        there = there.min(b);
-    }
-    let each = |d: Duration| d.as_secs_f64() * 1e9 / inputs.len() as f64;
-    println!("{name:10} {group:>6} {:>10.1} {:>10.1} {:>8.2}", each(here), each(there), each(here) / each(there));
+    let times = race::least(&format!("{name}, {group}"), inputs.len(), |i| said(&ours, inputs[i]), |i| said(&theirs, inputs[i]));
+    race::row(name, group, inputs.len(), times);
 }
 
 fn rank_of(bits: u64) -> u64 {
@@ -147,7 +118,8 @@ fn count(allowed: bool, n: u64, k: u64) -> u64 {
 
 // Unranking over the alphabets of users, ranks drawn evenly; the degrees that have a word there.
 fn over_alphabets() {
-    println!("\n{:10} {:>6} {:>10} {:>10} {:>8}", "unrank", "n, k", "here, ns", "Rust, ns", "ratio");
+    println!();
+    race::head("unrank", "n, k");
     for (name, allowed) in [("Forbidden", false), ("Allowed", true)] {
         for n in [8, 16, 32, 64] {
             for k in 2..=8 {
@@ -157,25 +129,25 @@ fn over_alphabets() {
                 }
                 let ranks = drawn(k, words);
                 let ours = |k, r, over: &mut u64, out: &mut u64| unsafe { gudrenoss_unrank_over(allowed, n, k, r, over, out) };
-                race(name, &format!("{n}, {k}"), &ranks, ours, |k, r, over, out| their_unrank_over(allowed, n, k, r, over, out));
+                run(name, &format!("{n}, {k}"), &ranks, ours, |k, r, over, out| their_unrank_over(allowed, n, k, r, over, out));
             }
         }
     }
 }
 
 fn main() {
-    println!("{:10} {:>6} {:>10} {:>10} {:>8}", "call", "degree", "here, ns", "Rust, ns", "ratio");
+    race::head("call", "degree");
     let mixed: Vec<u64> = (1..=12).collect();
     for (group, degrees) in [("1-12", &mixed[..]), ("2", &[2]), ("6", &[6]), ("12", &[12]), ("32", &[32]), ("48", &[48])] {
         let sets = sample(degrees);
-        race(
+        run(
             "rank",
             group,
             &sets,
             |a, _, _, out| unsafe { gudrenoss_rank_of(false, WIDEST, a, out) },
             |a, _, _, out| their_rank(false, WIDEST, a, out),
         );
-        race(
+        run(
             "successor",
             group,
             &sets,
@@ -183,7 +155,7 @@ fn main() {
             |a, _, n, out| their_successor(false, WIDEST, a, n, out),
         );
         let ranks: Vec<(u64, u64)> = sets.iter().map(|&(bits, k)| (k, rank_of(bits))).collect();
-        race(
+        run(
             "unrank",
             group,
             &ranks,
