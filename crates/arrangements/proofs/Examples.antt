@@ -3,6 +3,7 @@ use mathlib.Core.Path.{_≡_, refl}
 use mathlib.Core.Bool.{true, false}
 use mathlib.Core.List.{[], _∷_}
 use Rattle.words.specs.Factorial.{factorial}
+use Rattle.words.specs.Members.{standsIn}
 use Rattle.words.specs.HowMany.{HowMany}
 use Rattle.words.specs.Inversions.{smallerIn, inversions}
 use Rattle.arrangements.specs.Permutation.{Permutation, isPermutation, compose, inverse}
@@ -41,11 +42,11 @@ unfolding factorial
 how-many-empty = factorial-is-how-many 0
 
 tested : isPermutation (0 ∷ 2 ∷ 1 ∷ []) ≡ true
-unfolding isPermutation
+unfolding isPermutation standsIn
 tested = refl
 
 repeated : isPermutation (0 ∷ 2 ∷ 0 ∷ []) ≡ false
-unfolding isPermutation
+unfolding isPermutation standsIn
 repeated = refl
 
 -- 0 goes to 1, then to 2

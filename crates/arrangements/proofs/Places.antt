@@ -1,38 +1,25 @@
 -- Permutations by their places, as a program with an array has them, and the test. Assumes nothing.
---   at-in, in-at    what stands at a place stands in the list, and what stands in the list stands at a place
 --   map-at    what stands at a place of a list to which a function was applied
 --   distinct-at    no two places of a list hold the same
 --   ByPlaces n p    a permutation by its places; by-places, from-places    it is the permutation of the definition
---   stands, stands-not    the test whether a number stands in a list
 --   test-passes, test-tells, test-fails    the test for a permutation passes exactly at permutations
 use mathlib.Core.Path.{_≡_, refl, sym, ap, subst}
-use mathlib.Core.Logic.{inl, inr, _↔_}
+use mathlib.Core.Logic.{_↔_}
 use mathlib.Core.Bool.{Bool, true, false, true≢false}
 use mathlib.Core.List.{List, [], _∷_, map}
 use Prim.Native.Nat.{ℕ, zero, suc, _<_, suc-le-suc}
 use native.Mathlib.Nat.{not-suc-le-zero, le-of-suc-le-suc, zero-lt-suc, suc-inj, suc-ne-zero}
 use native.Mathlib.Omega.{arith}
-use borrow.Author.Tests.{eqb-true, eqb-false, leb-true, leb-false}
-use lib.Dec.{leb, eqb}
+use borrow.Author.Tests.{leb-true, leb-false}
+use lib.Dec.{leb}
 use lib.ListN.{length, getD}
 use Rattle.words.specs.Pick.{pick}
 use Rattle.words.specs.Word.{Below}
 use Rattle.words.specs.HowMany.{In, Distinct}
+use Rattle.words.specs.Members.{standsIn}
 use Rattle.words.proofs.Positions.{below-at}
-use Rattle.arrangements.specs.Permutation.{Permutation, standsIn, allFit, isPermutation}
-
-pub at-in : (w : List ℕ) (i : ℕ) → i < length w → In (getD w i 0) w
-at-in [] i h = absurd (not-suc-le-zero h)
-at-in (x ∷ xs) zero h = inl refl
-at-in (x ∷ xs) (suc i) h = inr (at-in xs i (le-of-suc-le-suc h))
-
-pub in-at : (x : ℕ) (w : List ℕ) → In x w → (i : ℕ) × (i < length w) × (getD w i 0 ≡ x)
-in-at x [] h = absurd h
-in-at x (y ∷ ys) (inl e) = (0, zero-lt-suc (length ys), sym e)
-in-at x (y ∷ ys) (inr h) = up (in-at x ys h)
-  where
-    up : (i : ℕ) × (i < length ys) × (getD ys i 0 ≡ x) → (i : ℕ) × (i < suc (length ys)) × (getD (y ∷ ys) i 0 ≡ x)
-    up t = (suc (t .0), suc-le-suc (t .1), t .2)
+use Rattle.words.proofs.Members.{at-in, in-at, stands-is-in, stands-is-not-in}
+use Rattle.arrangements.specs.Permutation.{Permutation, allFit, isPermutation}
 
 pub map-at : (f : ℕ → ℕ) (w : List ℕ) (i : ℕ) → i < length w → getD (map f w) i 0 ≡ f (getD w i 0)
 map-at f [] i h = absurd (not-suc-le-zero h)
@@ -81,23 +68,6 @@ from-places n p h =
 
 -- ---- the test
 
-pub stands : (x : ℕ) (w : List ℕ) → standsIn x w ≡ true → In x w
-stands x [] e = absurd (true≢false (sym e))
-stands x (y ∷ ys) e = go (eqb x y) refl e (stands x ys)
-  where
-    go : (t : Bool) → eqb x y ≡ t → pick t true (standsIn x ys) ≡ true → (standsIn x ys ≡ true → In x ys) → In x (y ∷ ys)
-    go true q r ih = inl (eqb-true x y q)
-    go false q r ih = inr (ih r)
-
-pub stands-not : (x : ℕ) (w : List ℕ) → standsIn x w ≡ false → In x w → ⊥
-stands-not x [] e h = h
-stands-not x (y ∷ ys) e h = go (eqb x y) refl e (stands-not x ys) h
-  where
-    go : (t : Bool) → eqb x y ≡ t → pick t true (standsIn x ys) ≡ false → (standsIn x ys ≡ false → In x ys → ⊥) → In x (y ∷ ys) → ⊥
-    go true q r ih i = true≢false r
-    go false q r ih (inl e) = eqb-false x y q e
-    go false q r ih (inr i) = ih r i
-
 fits : (n : ℕ) (w : List ℕ) → allFit n w ≡ true → Below n w × Distinct w
 fits n [] e = (tt, tt)
 fits n (x ∷ xs) e = go (leb n x) refl (standsIn x xs) refl e (fits n xs)
@@ -106,7 +76,7 @@ fits n (x ∷ xs) e = go (leb n x) refl (standsIn x xs) refl e (fits n xs)
         → (allFit n xs ≡ true → Below n xs × Distinct xs) → Below n (x ∷ xs) × Distinct (x ∷ xs)
     go true a t b e ih = absurd (true≢false (sym e))
     go false a true b e ih = absurd (true≢false (sym e))
-    go false a false b e ih = ((leb-false n x a, ih e .0), (stands-not x xs b, ih e .1))
+    go false a false b e ih = ((leb-false n x a, ih e .0), (stands-is-not-in x xs .0 b, ih e .1))
 
 fits-not : (n : ℕ) (w : List ℕ) → allFit n w ≡ false → Below n w → Distinct w → ⊥
 fits-not n [] e b d = true≢false e
@@ -115,7 +85,7 @@ fits-not n (x ∷ xs) e b d = go (leb n x) refl (standsIn x xs) refl e (fits-not
     go : (s : Bool) → leb n x ≡ s → (t : Bool) → standsIn x xs ≡ t → pick s false (pick t false (allFit n xs)) ≡ false
         → (allFit n xs ≡ false → Below n xs → Distinct xs → ⊥) → ⊥
     go true p t q e ih = omega (arith, leb-true n x p, b .0)
-    go false p true q e ih = d .0 (stands x xs q)
+    go false p true q e ih = d .0 (stands-is-in x xs .0 q)
     go false p false q e ih = ih e (b .1) (d .1)
 
 pub test-passes : (n : ℕ) (p : List ℕ) → Permutation n p → isPermutation p ≡ true

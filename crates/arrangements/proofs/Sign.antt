@@ -19,8 +19,10 @@ use Rattle.words.specs.Word.{Below, Monotone}
 use Rattle.words.specs.HowMany.{In, Distinct}
 use Rattle.words.specs.Inversions.{smallerIn, inversions, parity}
 use Rattle.words.proofs.Inversions.{increasing-has-no-inversions}
-use Rattle.arrangements.specs.Permutation.{Permutation, standsIn, countUp, identity, compose, inverse}
-use Rattle.arrangements.proofs.Places.{by-places, stands-not}
+use Rattle.words.specs.Members.{standsIn}
+use Rattle.words.proofs.Members.{in-below, stands-is-in}
+use Rattle.arrangements.specs.Permutation.{Permutation, countUp, identity, compose, inverse}
+use Rattle.arrangements.proofs.Places.{by-places}
 use Rattle.arrangements.proofs.Smaller.{one-if, weigh, weigh-next, permutation-has}
 use Rattle.arrangements.proofs.Group.{identity-is-a-permutation, compose-identity, inverse-is-a-permutation, compose-inverse}
 
@@ -60,11 +62,7 @@ unfolding sumBelow
 sum-over-permutation g n p h = sym (sum-of-smaller g n p (h .below)) ∙ up n (le-refl n)
   where
     has : (d : ℕ) → d < n → standsIn d p ≡ true
-    has d l = go (standsIn d p) refl
-      where
-        go : (t : Bool) → standsIn d p ≡ t → standsIn d p ≡ true
-        go true e = e
-        go false e = absurd (stands-not d p e (permutation-has n p h d l))
+    has d l = stands-is-in d p .1 (permutation-has n p h d l)
 
     up : (d : ℕ) → d ≤ n → weigh g d p ≡ sumBelow g d
     up zero l = weigh-none g p
@@ -135,11 +133,6 @@ reversals-of-permutation f n p h j =
 
 -- ---- composition and inverse
 
-below-in : (n x : ℕ) (w : List ℕ) → Below n w → In x w → x < n
-below-in n x [] b h = absurd h
-below-in n x (y ∷ ys) b (inl e) = omega (arith, b .0)
-below-in n x (y ∷ ys) b (inr h) = below-in n x ys (b .1) h
-
 count-up-increases : (i n : ℕ) → Monotone Forbidden (countUp i n)
 count-up-increases i zero = tt
 count-up-increases i (suc zero) = tt
@@ -156,7 +149,7 @@ parity-of-compose n p q g h = omega (arith, both)
     f i = getD p i 0
 
     injective : (w : List ℕ) → Permutation n w → (x y : ℕ) → In x w → In y w → f x ≡ f y → x ≡ y
-    injective w k x y a b e = by-places n p g .apart x y (below-in n x w (k .below) a) (below-in n y w (k .below) b) e
+    injective w k x y a b e = by-places n p g .apart x y (in-below n x w (k .below) a) (in-below n y w (k .below) b) e
 
     same : reversals f q ≡ reversals f (identity n)
     same =

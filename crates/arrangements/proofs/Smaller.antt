@@ -19,9 +19,11 @@ use lib.Seq.{take-suc}
 use Rattle.words.specs.Pick.{pick}
 use Rattle.words.specs.HowMany.{In, Distinct}
 use Rattle.words.specs.Inversions.{smallerIn}
+use Rattle.words.specs.Members.{standsIn}
 use Rattle.words.proofs.Inversions.{smaller-append}
-use Rattle.arrangements.specs.Permutation.{Permutation, standsIn}
-use Rattle.arrangements.proofs.Places.{stands, by-places}
+use Rattle.words.proofs.Members.{stands-is-in}
+use Rattle.arrangements.specs.Permutation.{Permutation}
+use Rattle.arrangements.proofs.Places.{by-places}
 
 -- ---- of any list
 
@@ -83,7 +85,7 @@ weigh g d (y ∷ ys) = pick (ltb y d) (g y) 0 + weigh g d ys
 
 -- d itself is the one entry that is smaller than d + 1 and not smaller than d
 pub weigh-next : (g : ℕ → ℕ) (d : ℕ) (w : List ℕ) → Distinct w → weigh g (suc d) w ≡ pick (standsIn d w) (g d) 0 + weigh g d w
-unfolding weigh
+unfolding weigh standsIn
 weigh-next g d [] a = refl
 weigh-next g d (y ∷ ys) a = go (eqb d y) refl (standsIn d ys) refl (ltb y d) refl (weigh-next g d ys (a .1))
   where
@@ -92,7 +94,7 @@ weigh-next g d (y ∷ ys) a = go (eqb d y) refl (standsIn d ys) refl (ltb y d) r
 
     go : (t : Bool) → eqb d y ≡ t → (s : Bool) → standsIn d ys ≡ s → (r : Bool) → ltb y d ≡ r → weigh g (suc d) ys ≡ pick (standsIn d ys) (g d) 0 + weigh g d ys
         → pick (ltb y (suc d)) (g y) 0 + weigh g (suc d) ys ≡ pick (pick t true (standsIn d ys)) (g d) 0 + (pick (ltb y d) (g y) 0 + weigh g d ys)
-    go true p true q r k ih = absurd (a .0 (subst (λ (v : ℕ). In v ys) (eqb-true d y p) (stands d ys q)))
+    go true p true q r k ih = absurd (a .0 (subst (λ (v : ℕ). In v ys) (eqb-true d y p) (stands-is-in d ys .0 q)))
     go true p false q r k ih =
         let e : d ≡ y = eqb-true d y p in
         omega (arith, ih, ap g e, ap (if (g d)) q, ap (if (g y)) (lt-ltb y (suc d) (omega arith)), ap (if (g y)) (le-ltb y d (omega arith)))
@@ -139,7 +141,7 @@ pub permutation-has : (n : ℕ) (p : List ℕ) → Permutation n p → (d : ℕ)
 permutation-has n p h d l = go (standsIn d p) refl
   where
     go : (t : Bool) → standsIn d p ≡ t → In d p
-    go true e = stands d p e
+    go true e = stands-is-in d p .0 e
     go false e =
         absurd
         (omega (arith, smaller-in-permutation n p h d (omega arith), smaller-in-permutation n p h (suc d) l, smaller-next d p (h .distinct), ap one-if e))

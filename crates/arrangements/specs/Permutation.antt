@@ -15,15 +15,12 @@ use lib.ListN.{length, getD}
 use Rattle.words.specs.Pick.{pick}
 use Rattle.words.specs.Word.{Below}
 use Rattle.words.specs.HowMany.{Distinct}
+use Rattle.words.specs.Members.{standsIn}
 
 pub record Permutation (n : ℕ) (p : List ℕ) : Type 0 where
   pub long : length p ≡ n
   pub below : Below n p
   pub distinct : Distinct p
-
-abbrev pub standsIn : ℕ → List ℕ → Bool
-standsIn x [] = false
-standsIn x (y ∷ ys) = pick (eqb x y) true (standsIn x ys)
 
 -- every entry is below n, and none stands in the list again
 abbrev pub allFit : ℕ → List ℕ → Bool

@@ -2,7 +2,7 @@
 // names.
 ghost use mathlib.Core.Path.{_≡_};
 ghost use Rattle.words.specs.Bits.{setBits};
-ghost use Rattle.bits.specs.Member.{holds};
+ghost use Rattle.words.specs.Members.{standsIn};
 ghost use Rattle.combination.specs.Rules.{insertSays, positionSays, selectSays};
 ghost use Rattle.boundary.specs.Boundary.{answered, status, stored, itself};
 use boundary::Status;
@@ -20,7 +20,7 @@ pub extern "C" fn gudrenoss_set_insert(set: u64, s: u64, with: &mut u64) -> Stat
 #[no_mangle]
 pub extern "C" fn gudrenoss_set_contains(set: u64, s: u64, contains: &mut bool) -> Status
     ensures back { λ r. ⌜ r ≡ answered ⌝ }
-    ensures holds { λ r. ⌜ now (contains .exit) ≡ holds s (setBits set) ⌝ }
+    ensures holds { λ r. ⌜ now (contains .exit) ≡ standsIn s (setBits set) ⌝ }
 {
     *contains = combination::contains(set, s);
     boundary::answer()

@@ -1,22 +1,17 @@
 -- A set with one symbol more. Assumes nothing.
---   set-of-one    the set of the single symbol s
 --   with-one    the digit of a symbol that the set has not, joined to it, makes the number of the two
 --   in-with-one    that has the symbols of the set, and s
-use mathlib.Core.Path.{_≡_, sym, ap, subst, _∙_}
+use mathlib.Core.Path.{_≡_, sym, subst, _∙_}
 use mathlib.Core.Logic.{_↔_, _⊎_, inl, inr, ⊎-elim}
 use mathlib.Core.List.{[], _∷_}
 use Prim.Native.Nat.{ℕ, _^_}
-use native.Mathlib.Nat.{add-zero}
 use native.Mathlib.Omega.{arith}
 use lib.Bits.{bitOr, or-disjoint}
 use Rattle.words.specs.HowMany.{In}
 use Rattle.words.specs.Bits.{bitsOf, setBits}
-use Rattle.words.proofs.Bits.{bits-of-set, set-of-bits}
+use Rattle.words.proofs.Bits.{bits-of-set}
+use Rattle.words.proofs.SetLaws.{set-of-one}
 use Rattle.words.proofs.Members.{in-or, and-zero-is-disjoint}
-
-pub set-of-one : (s : ℕ) → setBits (2 ^ s) ≡ s ∷ []
-unfolding bitsOf
-set-of-one s = ap setBits (sym (add-zero (2 ^ s))) ∙ set-of-bits (s ∷ []) tt
 
 in-one : (s x : ℕ) → In x (setBits (2 ^ s)) → x ≡ s
 in-one s x i = ⊎-elim (λ e. e) (λ n. absurd n) (subst (In x) (set-of-one s) i)

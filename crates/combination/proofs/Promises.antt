@@ -6,9 +6,9 @@
 --   select-one    the selection at one position has the symbol there
 use mathlib.Core.Path.{_≡_, refl, sym, ap, subst, _∙_}
 use mathlib.Core.Bool.{true, false, not}
-use mathlib.Core.Logic.{_↔_, _⊎_, inl, inr}
+use mathlib.Core.Logic.{_↔_, _⊎_, inl}
 use mathlib.Core.List.{List, [], _∷_}
-use Prim.Native.Nat.{ℕ, zero, suc, _^_, _<_, zero-le, suc-le-suc}
+use Prim.Native.Nat.{ℕ, zero, suc, _^_, _<_}
 use native.Mathlib.Nat.{le-of-suc-le-suc, not-suc-le-zero, add-zero}
 use borrow.Author.Tests.{not-false}
 use lib.Dec.{ltb}
@@ -19,60 +19,52 @@ use Rattle.words.specs.HowMany.{In}
 use Rattle.words.specs.Inversions.{smallerIn}
 use Rattle.words.specs.Bits.{bitsOf, setBits}
 use Rattle.words.proofs.Bits.{rest, tail, set-of-bits, set-bits-monotone}
-use Rattle.words.proofs.SetLaws.{from-at, position-is-how-many-below}
+use Rattle.words.proofs.SetLaws.{from-at, position-is-how-many-below, set-of-one}
 use Rattle.answers.specs.Says.{gives, refusedIf}
 use Rattle.answers.proofs.Says.{gives-same, passed}
-use Rattle.bits.specs.Member.{holds, reaches}
-use Rattle.bits.proofs.Member.{holds-is-in, holds-not, reaches-not}
+use Rattle.words.specs.Members.{standsIn}
+use Rattle.bits.specs.Member.{reaches}
+use Rattle.words.proofs.Members.{at-in, in-at, stands-is-in, stands-is-not-in}
+use Rattle.bits.proofs.Member.{reaches-not}
 use Rattle.combination.specs.Rules.{insertSays, positionSays, symbolsAt, selectSays}
-use Rattle.combination.proofs.Inserting.{set-of-one, in-with-one}
+use Rattle.combination.proofs.Inserting.{in-with-one}
 
 -- ---- insertion
 
 pub insert-members : (a s b : ℕ) → insertSays a s ≡ gives b → (x : ℕ) → In x (setBits b) ↔ ((x ≡ s) ⊎ In x (setBits a))
-insert-members a s b e x = go (passed (ltb 63 s) 7 (refusedIf (holds s (setBits a)) 5 (gives (bitsOf (s ∷ setBits a)))) b e)
+insert-members a s b e x = go (passed (ltb 63 s) 7 (refusedIf (standsIn s (setBits a)) 5 (gives (bitsOf (s ∷ setBits a)))) b e)
   where
-    go : (ltb 63 s ≡ false) × (refusedIf (holds s (setBits a)) 5 (gives (bitsOf (s ∷ setBits a))) ≡ gives b) → In x (setBits b) ↔ ((x ≡ s) ⊎ In x (setBits a))
-    go p = on (passed (holds s (setBits a)) 5 (gives (bitsOf (s ∷ setBits a))) b (p .1))
+    go : (ltb 63 s ≡ false) × (refusedIf (standsIn s (setBits a)) 5 (gives (bitsOf (s ∷ setBits a))) ≡ gives b) → In x (setBits b) ↔ ((x ≡ s) ⊎ In x (setBits a))
+    go p = on (passed (standsIn s (setBits a)) 5 (gives (bitsOf (s ∷ setBits a))) b (p .1))
       where
-        on : (holds s (setBits a) ≡ false) × (gives (bitsOf (s ∷ setBits a)) ≡ gives b) → In x (setBits b) ↔ ((x ≡ s) ⊎ In x (setBits a))
+        on : (standsIn s (setBits a) ≡ false) × (gives (bitsOf (s ∷ setBits a)) ≡ gives b) → In x (setBits b) ↔ ((x ≡ s) ⊎ In x (setBits a))
         on q =
             subst (λ (c : ℕ). In x (setBits c) ↔ ((x ≡ s) ⊎ In x (setBits a))) (gives-same (bitsOf (s ∷ setBits a)) b (q .1))
-            (in-with-one a s x (holds-not s (setBits a) .0 (q .0)))
+            (in-with-one a s x (stands-is-not-in s (setBits a) .0 (q .0)))
 
-pub insert-contains : (a s b : ℕ) → insertSays a s ≡ gives b → holds s (setBits b) ≡ true
-insert-contains a s b e = holds-is-in s (setBits b) .1 (insert-members a s b e s .1 (inl refl))
+pub insert-contains : (a s b : ℕ) → insertSays a s ≡ gives b → standsIn s (setBits b) ≡ true
+insert-contains a s b e = stands-is-in s (setBits b) .1 (insert-members a s b e s .1 (inl refl))
 
 -- ---- positions
 
-in-at : (w : List ℕ) (p : ℕ) → p < length w → In (getD w p 0) w
-in-at [] p h = absurd (not-suc-le-zero h)
-in-at (x ∷ xs) zero h = inl refl
-in-at (x ∷ xs) (suc p) h = inr (in-at xs p (le-of-suc-le-suc h))
-
 pub position-of-symbol : (a p : ℕ) → p < length (setBits a) → positionSays a (getD (setBits a) p 0) ≡ gives p
 position-of-symbol a p h =
-    simp (holds-is-in (getD (setBits a) p 0) (setBits a) .1 (in-at (setBits a) p h), position-is-how-many-below (setBits a) p 0 (set-bits-monotone a) h)
-
-at-in : (w : List ℕ) (s : ℕ) → In s w → (p : ℕ) × (p < length w) × (getD w p 0 ≡ s)
-at-in [] s i = absurd i
-at-in (x ∷ xs) s (inl e) = (0, suc-le-suc zero-le, sym e)
-at-in (x ∷ xs) s (inr i) = let t = at-in xs s i in (suc (t .0), suc-le-suc (t .1), t .2)
+    simp (stands-is-in (getD (setBits a) p 0) (setBits a) .1 (at-in (setBits a) p h), position-is-how-many-below (setBits a) p 0 (set-bits-monotone a) h)
 
 -- in an increasing list a symbol stands above those that are smaller
 stands-there : (w : List ℕ) (s : ℕ) → Monotone Forbidden w → In s w → (smallerIn s w < length w) × (getD w (smallerIn s w) 0 ≡ s)
 stands-there w s m i =
-    let t = at-in w s i in
+    let t = in-at s w i in
     let e : smallerIn s w ≡ t .0 = ap (λ (y : ℕ). smallerIn y w) (sym (t .2)) ∙ position-is-how-many-below w (t .0) 0 m (t .1) in
     subst (λ (n : ℕ). (n < length w) × (getD w n 0 ≡ s)) (sym e) (t .1, t .2)
 
 pub symbol-of-position : (a s p : ℕ) → positionSays a s ≡ gives p → (p < length (setBits a)) × (getD (setBits a) p 0 ≡ s)
-symbol-of-position a s p e = go (passed (not (holds s (setBits a))) 7 (gives (smallerIn s (setBits a))) p e)
+symbol-of-position a s p e = go (passed (not (standsIn s (setBits a))) 7 (gives (smallerIn s (setBits a))) p e)
   where
-    go : (not (holds s (setBits a)) ≡ false) × (gives (smallerIn s (setBits a)) ≡ gives p) → (p < length (setBits a)) × (getD (setBits a) p 0 ≡ s)
+    go : (not (standsIn s (setBits a)) ≡ false) × (gives (smallerIn s (setBits a)) ≡ gives p) → (p < length (setBits a)) × (getD (setBits a) p 0 ≡ s)
     go q =
         subst (λ (n : ℕ). (n < length (setBits a)) × (getD (setBits a) n 0 ≡ s)) (gives-same (smallerIn s (setBits a)) p (q .1))
-        (stands-there (setBits a) s (set-bits-monotone a) (holds-is-in s (setBits a) .0 (not-false (holds s (setBits a)) (q .0))))
+        (stands-there (setBits a) s (set-bits-monotone a) (stands-is-in s (setBits a) .0 (not-false (standsIn s (setBits a)) (q .0))))
 
 -- ---- selection
 

@@ -11,13 +11,14 @@ use lib.ListN.{length, getD}
 use Rattle.words.specs.Inversions.{smallerIn}
 use Rattle.words.specs.Bits.{bitsOf, setBits}
 use Rattle.answers.specs.Says.{Says, gives, refusedIf}
-use Rattle.bits.specs.Member.{holds, reaches}
+use Rattle.words.specs.Members.{standsIn}
+use Rattle.bits.specs.Member.{reaches}
 
 abbrev pub insertSays : ℕ → ℕ → Says ℕ
-insertSays a s = refusedIf (ltb 63 s) 7 (refusedIf (holds s (setBits a)) 5 (gives (bitsOf (s ∷ setBits a))))
+insertSays a s = refusedIf (ltb 63 s) 7 (refusedIf (standsIn s (setBits a)) 5 (gives (bitsOf (s ∷ setBits a))))
 
 abbrev pub positionSays : ℕ → ℕ → Says ℕ
-positionSays a s = refusedIf (not (holds s (setBits a))) 7 (gives (smallerIn s (setBits a)))
+positionSays a s = refusedIf (not (standsIn s (setBits a))) 7 (gives (smallerIn s (setBits a)))
 
 abbrev pub symbolsAt : List ℕ → List ℕ → List ℕ
 symbolsAt ps w = map (λ p. getD w p 0) ps

@@ -3,7 +3,7 @@
 ghost use mathlib.Core.Path.{_≡_};
 ghost use Rattle.words.specs.Bits.{setBits};
 ghost use Rattle.answers.specs.Says.{answerSays};
-ghost use Rattle.bits.specs.Member.{holds};
+ghost use Rattle.words.specs.Members.{standsIn};
 ghost use Rattle.combination.specs.Rules.{insertSays, positionSays, selectSays};
 use answers::Answer;
 use answers::Refusal;
@@ -24,7 +24,7 @@ pub fn insert(set: u64, s: u64) -> Answer
 
 // Has the set the symbol s? No from 64 up.
 pub fn contains(set: u64, s: u64) -> bool
-    ensures { λ r. ⌜ r ≡ holds s (setBits set) ⌝ }
+    ensures { λ r. ⌜ r ≡ standsIn s (setBits set) ⌝ }
 {
     bits::contains(set, s)
 }

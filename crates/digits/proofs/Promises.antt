@@ -10,8 +10,8 @@
 --   word-is-a-shape-of-equal-radices    up to 16 positions, the symbols are the digits of the rank in the shape of equal radices
 use mathlib.Core.Path.{_≡_, refl, sym, ap, ap₂, subst, _∙_}
 use mathlib.Core.Bool.{not}
-use mathlib.Core.List.{List, [], _∷_, _++_}
-use Prim.Native.Nat.{ℕ, zero, suc, _+_, _-_, _^_, _≤_, _<_}
+use mathlib.Core.List.{List, [], _++_}
+use Prim.Native.Nat.{ℕ, suc, _+_, _-_, _^_, _≤_, _<_}
 use native.Mathlib.Omega.{arith}
 use borrow.Author.Tests.{ltb-false, leb-false, le-ltb, lt-leb, eqb-true, not-false}
 use lib.Dec.{leb, ltb, eqb}
@@ -23,6 +23,7 @@ use Rattle.words.specs.HowMany.{HowMany}
 use Rattle.words.specs.Inversions.{multiplicity}
 use Rattle.words.proofs.Inversions.{absent-is-none}
 use Rattle.words.proofs.Members.{in-below}
+use Rattle.words.proofs.Word.{below-append, below-take, below-drop}
 use Rattle.answers.specs.Says.{Says, gives, refusedIf, andThen}
 use Rattle.answers.proofs.Says.{gives-same, passed, then-gave}
 use Rattle.bits.specs.Member.{reaches}
@@ -112,20 +113,6 @@ word-tells-the-symbols x room w e =
     (ap gives same)
 
 -- ---- concatenation and deletion
-
-below-append : (n : ℕ) (u v : List ℕ) → Below n u → Below n v → Below n (u ++ v)
-below-append n [] v b d = d
-below-append n (x ∷ xs) v b d = (b .0, below-append n xs v (b .1) d)
-
-below-take : (n i : ℕ) (w : List ℕ) → Below n w → Below n (take i w)
-below-take n zero w b = tt
-below-take n (suc i) [] b = tt
-below-take n (suc i) (x ∷ xs) b = (b .0, below-take n i xs (b .1))
-
-below-drop : (n i : ℕ) (w : List ℕ) → Below n w → Below n (drop i w)
-below-drop n zero w b = b
-below-drop n (suc i) [] b = tt
-below-drop n (suc i) (x ∷ xs) b = below-drop n i xs (b .1)
 
 pub concatenation-joins-the-symbols : (x y z : DigitWord) (room : ℕ) → concatSays x y ≡ gives z → x .degree + y .degree ≤ room
     → symbolsSays z room ≡ gives (symbolsOf x ++ symbolsOf y)

@@ -32,7 +32,7 @@ use Rattle.answers.specs.declared.Index.{Index}
 use Rattle.answers.specs.declared.Sign.{Sign}
 use Rattle.answers.specs.declared.Sign.the-variants.{Plus, Minus}
 use Rattle.answers.specs.Says.{Says, refusesWith, refuses, gives, refusedIf, andThen, SignedTerm}
-use Rattle.answers.specs.Signs.{times}
+use Rattle.answers.specs.Signs.{times, signIn}
 use Rattle.answers.specs.Terms.{indexOf, wordOf}
 use Rattle.answers.proofs.Says.{gives-no-refusal, passed}
 use Rattle.answers.proofs.Terms.{word-monotone, index-of-word}
@@ -41,11 +41,12 @@ use Rattle.taking.proofs.Accepted.{accepted-passes, passes-accepted, narrow-alp
 use Rattle.merging.specs.Sorting.{Rearranged, sorted, merged, repeats}
 use Rattle.merging.proofs.Sorting.{sorted-of-increasing}
 use Rattle.merging.proofs.Repeats.{repeats-append, strict-has-no-repeats}
-use Rattle.algebra.specs.Rules.{sameFamily, signIn, joinSays, mergeSays}
+use Rattle.merging.proofs.Growing.{sorted-joins}
+use Rattle.algebra.specs.Rules.{sameFamily, joinSays, mergeSays}
 use Rattle.algebra.proofs.Over.{merged-below}
 use Rattle.algebra.proofs.Promises.{no-sign}
 use Rattle.merge_laws.specs.Bracketings.{multiplied, leftFirst, rightFirst, exchangeSign, Bracketing, leaf, join, leaves, mergeTerms, productOf, indexAlone, AllOf, rowWord, largest, Apart, MayMerge, numberIn, stops, rowSays, Reordered}
-use Rattle.merge_laws.proofs.Rows.{merged-sorted, whole, rows-merge, rows-exchange, rows-reordered}
+use Rattle.merge_laws.proofs.Rows.{whole, rows-merge, rows-exchange, rows-reordered}
 
 -- ---- rows of indices
 
@@ -90,7 +91,7 @@ row-below : (F : Family) (xs : List Index) → AllOf F xs → Below (largest xs)
 unfolding sorted
 row-below F [] a = tt
 row-below F (x ∷ xs) a =
-    subst (Below (largest (x ∷ xs))) (merged-sorted (wordOf x) (rowWord xs))
+    subst (Below (largest (x ∷ xs))) (sorted-joins (wordOf x) (rowWord xs))
     (merged-below (largest (x ∷ xs)) (sorted (wordOf x)) (sorted (rowWord xs))
     (subst (Below (largest (x ∷ xs))) (sym (word-sorted x)) (below-more (x .alphabet) (largest (x ∷ xs)) (wordOf x) (le-max-left (x .alphabet) (largest xs)) (a .0 .over)))
     (below-more (largest xs) (largest (x ∷ xs)) (sorted (rowWord xs)) (le-max-right (x .alphabet) (largest xs)) (row-below F xs (a .2))))

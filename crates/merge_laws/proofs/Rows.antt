@@ -1,7 +1,6 @@
 -- What the words of a row give, without a bracket. Assumes nothing.
 --   repeats-rearranged    the repeats of a list do not depend on its order
 --   stops-rearranged    so neither does whether a row has a product
---   merged-sorted    two lists, sorted and merged, are the two in a row, sorted
 --   whole F n w    the term of a row
 --   rows-merge    what two rows give, merged, is what the two in a row give
 --   rows-exchange    two parts of a row that stand side by side, exchanged, multiply the sign by (-1) to the product of their lengths
@@ -23,17 +22,17 @@ use Rattle.words.specs.Inversions.{multiplicity, crossings, equalPairs, inversi
 use Rattle.words.proofs.Inversions.{inversions-append, crossings-append-left, crossings-both-ways, multiplicity-append}
 use Rattle.answers.specs.declared.Sign.{Sign}
 use Rattle.answers.specs.Says.{gives, refusedIf, andThen, SignedTerm}
-use Rattle.answers.specs.Signs.{signOf, times}
+use Rattle.answers.specs.Signs.{signOf, times, signIn}
 use Rattle.answers.specs.Terms.{indexOf}
 use Rattle.answers.proofs.Signs.{sign-of-parity, times-of-sum}
 use Rattle.answers.proofs.Terms.{word-of-index}
 use Rattle.taking.specs.Taken.{Accepted}
 use Rattle.taking.proofs.Accepted.{index-accepted}
 use Rattle.merging.specs.Sorting.{Rearranged, sorted, merged, repeats}
-use Rattle.merging.proofs.Sorting.{sorted-increases, sorted-rearranges, sorted-is-the-one, sorted-same, length-rearranged, crossings-rearranged, equal-pairs-rearranged}
+use Rattle.merging.proofs.Sorting.{sorted-increases, sorted-rearranges, sorted-same, length-rearranged, crossings-rearranged, equal-pairs-rearranged}
 use Rattle.merging.proofs.Repeats.{repeats-append, strict-has-no-repeats}
-use Rattle.merging.proofs.Merging.{merged-many, merged-increases}
-use Rattle.algebra.specs.Rules.{signIn, mergedWordsSays, mergeSays}
+use Rattle.merging.proofs.Growing.{sorted-joins}
+use Rattle.algebra.specs.Rules.{mergedWordsSays, mergeSays}
 use Rattle.algebra.proofs.Over.{sorted-long}
 use Rattle.algebra.proofs.Gathering.{sorted-monotone}
 use Rattle.algebra.proofs.Promises.{by-words}
@@ -115,11 +114,6 @@ both-sorted : (u v : List ℕ) → Rearranged (sorted u ++ sorted v) (u ++ v)
 both-sorted u v x =
     omega (arith, multiplicity-append x (sorted u) (sorted v), multiplicity-append x u v, sorted-rearranges u x, sorted-rearranges v x)
 
-pub merged-sorted : (u v : List ℕ) → merged (sorted u) (sorted v) ≡ sorted (u ++ v)
-merged-sorted u v =
-    sorted-is-the-one (u ++ v) (merged (sorted u) (sorted v)) (merged-increases (sorted u) (sorted v) (sorted-increases u) (sorted-increases v))
-    (λ x. omega (arith, multiplicity-append x u v, merged-many x (sorted u) (sorted v), sorted-rearranges u x, sorted-rearranges v x))
-
 crossings-sorted : (u v : List ℕ) → crossings (sorted u) (sorted v) ≡ crossings u v
 crossings-sorted u v = sym (crossings-rearranged u (sorted u) v (sorted v) (sorted-rearranges u) (sorted-rearranges v))
 
@@ -148,7 +142,7 @@ both-pass F m n u v h k b d e f =
     ap (multiplied (times (signIn F (inversions u)) (signIn F (inversions v)))) merges
     ∙ sign-within (times (signIn F (inversions u)) (signIn F (inversions v))) (stops F (max m n) (sorted u ++ sorted v)) (numberIn F) (joint F (max m n) (sorted u) (sorted v))
     ∙ ap₂ (λ (t : Bool) (a : SignedTerm). refusedIf t (numberIn F) (gives a)) (stops-rearranged F (max m n) (sorted u ++ sorted v) (u ++ v) (both-sorted u v))
-    (ap₂ (λ (s : Sign) (w : List ℕ). record { sign = s; index = indexOf F (max m n) w }) signs (merged-sorted u v))
+    (ap₂ (λ (s : Sign) (w : List ℕ). record { sign = s; index = indexOf F (max m n) w }) signs (sorted-joins u v))
 
 pub rows-merge : (F : Family) (m n : ℕ) (u v : List ℕ) → m ≤ 64 → n ≤ 64 → Below m (sorted u) → Below n (sorted v)
     → andThen (rowSays F m u) (λ a. andThen (rowSays F n v) (λ b. mergeTerms a b)) ≡ rowSays F (max m n) (u ++ v)

@@ -29,11 +29,11 @@ use Rattle.answers.specs.declared.Index.{Index}
 use Rattle.answers.specs.declared.Sign.{Sign}
 use Rattle.answers.specs.declared.Sign.the-variants.{Plus}
 use Rattle.answers.specs.Says.{Says, gives, refusedIf, andThen, SignedTerm}
-use Rattle.answers.specs.Signs.{times}
+use Rattle.answers.specs.Signs.{times, signIn}
 use Rattle.answers.specs.Terms.{indexOf, wordOf}
 use Rattle.taking.specs.Taken.{Accepted}
 use Rattle.merging.specs.Sorting.{sorted, repeats}
-use Rattle.algebra.specs.Rules.{signIn, mergeSays}
+use Rattle.algebra.specs.Rules.{mergeSays}
 
 -- ---- two and three
 

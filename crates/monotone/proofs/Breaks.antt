@@ -2,7 +2,7 @@
 --   checked-breaks    the checks of a word refuse with 2 only a word that breaks its rule, and carry the place where it does
 --   breaks-exactly-there    and they do so exactly at the first break of a word of at most 64 symbols: rank, and whatever has these checks
 --   breaks-exactly-there-over    the same of a word that is given with an alphabet: packing
-use mathlib.Core.Path.{_≡_, refl, sym, ap, subst, _∙_}
+use mathlib.Core.Path.{_≡_, refl, sym, subst, _∙_}
 use mathlib.Core.Bool.{Bool, true, false, not}
 use mathlib.Core.Logic.{_↔_}
 use mathlib.Core.List.{List, [], _∷_}
@@ -59,41 +59,35 @@ breaks-exactly-there F w a p = (to, from)
         let e : breakAt F w ≡ p = first-break-is-one F w (breakAt F w) p (breaks-at-the-first-pair F w r) (t .1) in
         simp (le-ltb 64 (length w) (t .0), r, e)
 
+-- ---- a word that is given with an alphabet
+
+-- a word that breaks its rule is refused there, whatever the checks after that
+broken : {A : Type 0} (t : Bool) (b p : ℕ) (s u : Says A) → (s ≡ refusesAt 2 p → ⊥) → refusedAtIf t 2 b s ≡ refusesAt 2 p → refusedAtIf t 2 b u ≡ refusesAt 2 p
+broken true b p s u n e = e
+broken false b p s u n e = absurd (n e)
+
 -- where n's shifted alphabet has room, the checks with n refuse with 2 as those without
 over-breaks : {A : Type 0} (F : Family) (n : ℕ) (w : List ℕ) (a : A) (p : ℕ) → length w ≤ 64 → shiftedAlphabet F n (length w) ≤ 64
     → (checkedOver F n w a ≡ refusesAt 2 p) ↔ (checked F w a ≡ refusesAt 2 p)
-over-breaks F n w a p h l = (to, from)
+over-breaks {A = A} F n w a p h l = (
+  λ e. bare ∙ broken (not (rises F w)) (breakAt F w) p (past (reaches n w)) (past false) (last (ltb 63 (lastShifted F w)) (reaches n w)) (sym over ∙ e),
+  λ e. over ∙ broken (not (rises F w)) (breakAt F w) p (past false) (past (reaches n w)) (last (ltb 63 (lastShifted F w)) false) (sym bare ∙ e),
+)
   where
-    over : checkedOver F n w a ≡ refusedAtIf (not (rises F w)) 2 (breakAt F w) (refusedIf (ltb 63 (lastShifted F w)) 1 (refusedIf (reaches n w) 7 (gives a)))
+    -- the checks after that; without n none asks whether a symbol is not below it
+    past : Bool → Says A
+    past t = refusedIf (ltb 63 (lastShifted F w)) 1 (refusedIf t 7 (gives a))
+
+    over : checkedOver F n w a ≡ refusedAtIf (not (rises F w)) 2 (breakAt F w) (past (reaches n w))
     over = simp (le-ltb 64 (length w) h, le-ltb 64 (shiftedAlphabet F n (length w)) l)
 
-    bare : checked F w a ≡ refusedAtIf (not (rises F w)) 2 (breakAt F w) (refusedIf (ltb 63 (lastShifted F w)) 1 (gives a))
+    bare : checked F w a ≡ refusedAtIf (not (rises F w)) 2 (breakAt F w) (past false)
     bare = simp (le-ltb 64 (length w) h)
 
     last : (t u : Bool) → refusedIf t 1 (refusedIf u 7 (gives a)) ≡ refusesAt 2 p → ⊥
     last true u e = let z : _≡_ {A = ℕ} 1 2 = cc in omega arith
     last false true e = let z : _≡_ {A = ℕ} 7 2 = cc in omega arith
     last false false e = gives-never a 2 (p ∷ []) e
-
-    bare-last : (t : Bool) → refusedIf t 1 (gives a) ≡ refusesAt 2 p → ⊥
-    bare-last true e = let z : _≡_ {A = ℕ} 1 2 = cc in omega arith
-    bare-last false e = gives-never a 2 (p ∷ []) e
-
-    to : checkedOver F n w a ≡ refusesAt 2 p → checked F w a ≡ refusesAt 2 p
-    to e = bare ∙ go (not (rises F w)) (sym over ∙ e)
-      where
-        go : (t : Bool) → refusedAtIf t 2 (breakAt F w) (refusedIf (ltb 63 (lastShifted F w)) 1 (refusedIf (reaches n w) 7 (gives a))) ≡ refusesAt 2 p
-            → refusedAtIf t 2 (breakAt F w) (refusedIf (ltb 63 (lastShifted F w)) 1 (gives a)) ≡ refusesAt 2 p
-        go true f = let z : breakAt F w ≡ p = cc in ap (refusesAt 2) z
-        go false f = absurd (last (ltb 63 (lastShifted F w)) (reaches n w) f)
-
-    from : checked F w a ≡ refusesAt 2 p → checkedOver F n w a ≡ refusesAt 2 p
-    from e = over ∙ go (not (rises F w)) (sym bare ∙ e)
-      where
-        go : (t : Bool) → refusedAtIf t 2 (breakAt F w) (refusedIf (ltb 63 (lastShifted F w)) 1 (gives a)) ≡ refusesAt 2 p
-            → refusedAtIf t 2 (breakAt F w) (refusedIf (ltb 63 (lastShifted F w)) 1 (refusedIf (reaches n w) 7 (gives a))) ≡ refusesAt 2 p
-        go true f = let z : breakAt F w ≡ p = cc in ap (refusesAt 2) z
-        go false f = absurd (bare-last (ltb 63 (lastShifted F w)) f)
 
 -- only a word of at most 64 symbols whose alphabet is not too wide gets as far
 over-reached : {A : Type 0} (F : Family) (n : ℕ) (w : List ℕ) (a : A) (p : ℕ) → checkedOver F n w a ≡ refusesAt 2 p

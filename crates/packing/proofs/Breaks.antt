@@ -3,7 +3,7 @@
 --   first-break-is-one    there is one such place
 --   break-ends-the-longest-beginning    of any word, what stands before that place is the longest beginning that keeps the rule
 use mathlib.Core.Path.{_≡_, refl, sym, ap, subst, _∙_}
-use mathlib.Core.Bool.{Bool, true, false}
+use mathlib.Core.Bool.{Bool, true, false, true≢false}
 use mathlib.Core.List.{List, [], _∷_}
 use Prim.Native.Nat.{ℕ, zero, suc, _+_, _≤_, _<_, zero-le}
 use native.Mathlib.Nat.{le-of-suc-le-suc, not-suc-le-zero, zero-lt-suc}
@@ -16,9 +16,6 @@ use Rattle.words.specs.Word.{Step, Monotone}
 use Rattle.packing.specs.Checks.{steps, rises, breakFrom, breakAt}
 use Rattle.packing.specs.Breaks.{FirstBreak, LongestKept}
 use Rattle.packing.proofs.Checks.{step-of-test, test-of-step}
-
-clash : {A : Type 0} → true ≡ false → A
-clash e = absurd (let z : _≡_ {A = ℕ} 0 1 = cc in omega arith)
 
 -- ---- counted from any position
 
@@ -42,7 +39,7 @@ stops F x y ys e = ap (λ t. pick t (breakFrom F 1 (y ∷ ys)) 1) e
 -- ---- the first pair
 
 refused-step : (F : Family) (x y : ℕ) → steps F x y ≡ false → Step F x y → ⊥
-refused-step F x y e s = clash (sym (test-of-step F x y s) ∙ e)
+refused-step F x y e s = true≢false (sym (test-of-step F x y s) ∙ e)
 
 at-the-front : (F : Family) (x y : ℕ) (ys : List ℕ) → steps F x y ≡ false → FirstBreak F (x ∷ y ∷ ys) 1
 at-the-front F x y ys e =
@@ -75,8 +72,8 @@ further-on F x y ys p e b =
     first (suc q) h = b .first q (le-of-suc-le-suc h)
 
 pub breaks-at-the-first-pair : (F : Family) (w : List ℕ) → rises F w ≡ false → FirstBreak F w (breakAt F w)
-breaks-at-the-first-pair F [] e = clash e
-breaks-at-the-first-pair F (x ∷ []) e = clash e
+breaks-at-the-first-pair F [] e = absurd (true≢false e)
+breaks-at-the-first-pair F (x ∷ []) e = absurd (true≢false e)
 breaks-at-the-first-pair F (x ∷ y ∷ ys) e = go (steps F x y) refl (breaks-at-the-first-pair F (y ∷ ys))
   where
     go : (t : Bool) → steps F x y ≡ t → (rises F (y ∷ ys) ≡ false → FirstBreak F (y ∷ ys) (breakAt F (y ∷ ys))) → FirstBreak F (x ∷ y ∷ ys) (breakAt F (x ∷ y ∷ ys))

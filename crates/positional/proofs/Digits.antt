@@ -1,14 +1,13 @@
 -- A number and its digits. Assumes nothing.
 --   digits-long, digit-below    there are as many good digits as radices, and each is below its radix
---   digits-by-position    and the other way round
 --   number-below    the number that has good digits is below the product of the radices
 --   digits-good    a number below the product has good digits
 --   number-of-digits    a number below the product is the one that has its digits
 --   digits-of-number    good digits are those of the number that has them
-use mathlib.Core.Path.{_≡_, refl, sym, ap, ap₂, _∙_}
+use mathlib.Core.Path.{_≡_, refl, ap, ap₂, _∙_}
 use mathlib.Core.List.{List, [], _∷_}
-use Prim.Native.Nat.{ℕ, zero, suc, _+_, _*_, _/_, _%_, _<_, _≤_, suc-le-suc}
-use native.Mathlib.Nat.{zero-add, zero-lt-suc, not-suc-le-zero, le-of-suc-le-suc, suc-inj, suc-ne-zero, mul-le-mul-left, mul-comm, mod-lt, mod-eq-of-lt, mod-add-div, div-eq-of-lt, div-lt-iff-lt-mul, add-mul-mod-self-left, add-mul-div-left}
+use Prim.Native.Nat.{ℕ, zero, suc, _+_, _*_, _/_, _%_, _<_, _≤_}
+use native.Mathlib.Nat.{zero-add, zero-lt-suc, not-suc-le-zero, le-of-suc-le-suc, mul-le-mul-left, mul-comm, mod-lt, mod-eq-of-lt, mod-add-div, div-eq-of-lt, div-lt-iff-lt-mul, add-mul-mod-self-left, add-mul-div-left}
 use native.Mathlib.Omega.{arith}
 use lib.ListN.{length, getD}
 use Rattle.positional.specs.Positional.{product, Digits, positionalValue, digitsOf}
@@ -26,12 +25,6 @@ digit-below [] ds g i h = absurd (not-suc-le-zero h)
 digit-below (r ∷ rs) [] g i h = absurd g
 digit-below (r ∷ rs) (d ∷ ds) g zero h = g .0
 digit-below (r ∷ rs) (d ∷ ds) g (suc i) h = digit-below rs ds (g .1) i (le-of-suc-le-suc h)
-
-pub digits-by-position : (rs ds : List ℕ) → length ds ≡ length rs → ((i : ℕ) → i < length rs → getD ds i 0 < getD rs i 0) → Digits rs ds
-digits-by-position [] [] e f = tt
-digits-by-position [] (d ∷ ds) e f = suc-ne-zero (length ds) e
-digits-by-position (r ∷ rs) [] e f = suc-ne-zero (length rs) (sym e)
-digits-by-position (r ∷ rs) (d ∷ ds) e f = (f 0 (zero-lt-suc (length rs)), digits-by-position rs ds (suc-inj e) (λ i h. f (suc i) (suc-le-suc h)))
 
 -- ---- the two ways
 

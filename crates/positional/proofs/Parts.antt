@@ -1,6 +1,6 @@
 -- Numbers in parts: two digit words one after the other, and a position taken out. Assumes nothing.
 --   digits-append, number-append    the digits of two lists of radices, one after the other: the first has the lowest digits
---   digits-take, digits-drop    good digits below a position, and from there up
+--   digits-take    good digits below a position
 --   number-split    a number by these two parts of its digits
 --   number-low, number-high    what it leaves, and what it goes to, at a division by the stride
 --   number-high-least    it is no smaller than its digits from a position up make
@@ -37,13 +37,6 @@ digits-take [] [] (suc i) g = tt
 digits-take [] (d ∷ ds) (suc i) g = absurd g
 digits-take (r ∷ rs) [] (suc i) g = absurd g
 digits-take (r ∷ rs) (d ∷ ds) (suc i) g = (g .0, digits-take rs ds i (g .1))
-
-pub digits-drop : (rs ds : List ℕ) (i : ℕ) → Digits rs ds → Digits (drop i rs) (drop i ds)
-digits-drop rs ds zero g = g
-digits-drop [] [] (suc i) g = tt
-digits-drop [] (d ∷ ds) (suc i) g = absurd g
-digits-drop (r ∷ rs) [] (suc i) g = absurd g
-digits-drop (r ∷ rs) (d ∷ ds) (suc i) g = digits-drop rs ds i (g .1)
 
 pub number-split : (rs ds : List ℕ) (i : ℕ) → Digits rs ds → positionalValue rs ds ≡ positionalValue (take i rs) (take i ds) + stride rs i * positionalValue (drop i rs) (drop i ds)
 number-split rs ds i g =

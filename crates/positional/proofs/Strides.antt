@@ -1,7 +1,6 @@
 -- Products of radices, strides, and a number as the sum of its digits times their strides. Assumes nothing.
 --   product-append    the product of a list in two parts
 --   stride-next    the stride after a position is its stride times its radix
---   stride-all    past the last position it is the product
 --   product-split    the product by the stride of a position and the radices from there up
 --   radix-pos, zero-radix    no radix of a product that is not 0 is 0; a product with a radix 0 is 0
 --   values-long, values-at    the list of the values of f
@@ -9,11 +8,11 @@
 --   number-is-weighed    a number is the sum of its digits times their strides
 use mathlib.Core.Path.{_≡_, refl, sym, ap, _∙_}
 use mathlib.Core.List.{List, [], _∷_, _++_}
-use Prim.Native.Nat.{ℕ, zero, suc, _+_, _*_, _<_, _≤_}
+use Prim.Native.Nat.{ℕ, zero, suc, _+_, _*_, _<_}
 use native.Mathlib.Nat.{not-suc-le-zero, le-of-suc-le-suc, zero-lt-suc, lt-of-mul-lt-mul-left, one-mul, mul-one}
 use native.Mathlib.Omega.{arith}
 use lib.ListN.{length, getD, take, drop, take-append-drop}
-use lib.Seq.{take-all, take-suc}
+use lib.Seq.{take-suc}
 use Rattle.positional.specs.Positional.{product, stride, valuesBelow, strides, positionalValue, weighed}
 
 pub product-append : (rs ss : List ℕ) → product (rs ++ ss) ≡ product rs * product ss
@@ -24,9 +23,6 @@ product-append (r ∷ rs) ss = omega (arith, ap (λ (p : ℕ). r * p) (product-a
 pub stride-next : (rs : List ℕ) (i : ℕ) → i < length rs → stride rs (suc i) ≡ stride rs i * getD rs i 0
 unfolding product
 stride-next rs i h = ap product (take-suc rs i 0 h) ∙ product-append (take i rs) (getD rs i 0 ∷ []) ∙ ap (λ (r : ℕ). stride rs i * r) (mul-one (getD rs i 0))
-
-pub stride-all : (rs : List ℕ) (i : ℕ) → length rs ≤ i → stride rs i ≡ product rs
-stride-all rs i h = ap product (take-all i rs h)
 
 pub radix-pos : (rs : List ℕ) (i : ℕ) → 0 < product rs → i < length rs → 0 < getD rs i 0
 unfolding product

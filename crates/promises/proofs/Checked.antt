@@ -13,7 +13,8 @@ use Rattle.words.specs.Unrank.{greatest, fill}
 use Rattle.words.specs.Next.{reset, nextFrom}
 use Rattle.words.specs.Bits.{bitsOf, onesFrom}
 use Rattle.words.specs.Inversions.{smallerIn, multiplicity, crossings, equalPairs, inversions}
-use Rattle.bits.specs.Member.{holds, reaches}
+use Rattle.words.specs.Members.{standsIn}
+use Rattle.bits.specs.Member.{reaches}
 use Rattle.answers.specs.declared.Sign.the-variants.{Plus}
 use Rattle.answers.specs.Says.{refuses, gives}
 use Rattle.answers.proofs.Terms.{word-of-index}
@@ -47,7 +48,7 @@ without-63 = simp (word-of-index Forbidden 64 (0 ∷ 2 ∷ 63 ∷ []) (omega ari
 
 -- a line for each point
 pub hand-checked : AllConfirmed cases
-unfolding choose rankFrom greatest fill nextFrom reset bitsOf onesFrom smallerIn multiplicity crossings equalPairs inversions merged holds reaches absentFrom
+unfolding choose rankFrom greatest fill nextFrom reset bitsOf onesFrom smallerIn multiplicity crossings equalPairs inversions merged standsIn reaches absentFrom
     takenArrangement numbered isGood zerosOnly isPermutation rankBelow factorial product cornerOf positionalValue digitsOf
 hand-checked =
     refl and refl

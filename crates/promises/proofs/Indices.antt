@@ -11,13 +11,12 @@ use mathlib.Core.Bool.{Bool, true, false}
 use mathlib.Core.Logic.{_↔_}
 use mathlib.Core.List.{List}
 use Prim.Native.Nat.{ℕ, zero, suc, _-_, _+_, _≤_, _<_}
-use native.Mathlib.Nat.{le-trans, lt-of-not-le, lt-of-lt-of-le}
+use native.Mathlib.Nat.{lt-of-not-le, lt-of-lt-of-le}
 use native.Mathlib.Decide.{decLe}
 use native.Mathlib.Omega.{arith}
 use borrow.Author.Tests.{leb-false, le-ltb, le-leb, lt-leb}
 use lib.Dec.{leb, ltb}
 use lib.ListN.{length}
-use Rattle.pascal.proofs.Choose.{choose-grows}
 use Rattle.words.specs.declared.Family.{Family}
 use Rattle.words.specs.declared.Family.the-variants.{Forbidden, Allowed}
 use Rattle.words.specs.Word.{Below, Word, shiftedAlphabet, count}
@@ -32,7 +31,7 @@ use Rattle.answers.proofs.Terms.{word-of-index}
 use Rattle.monotone_count.specs.Rules.{countSays}
 use Rattle.monotone_unrank.specs.Rules.{unrankOverSays, widest, unrankAnySays}
 use Rattle.monotone_count.proofs.Rules.{Counted, count-given, count-gives}
-use Rattle.promises.proofs.Alphabets.{narrower}
+use Rattle.promises.proofs.Alphabets.{narrow, fewer}
 
 -- ---- the alphabet that none has named
 
@@ -84,12 +83,6 @@ over-none F n k r d l b = simp (count-gives F n k d l, le-leb (count F n k) r b)
 -- ---- two alphabets
 
 module _ (F : Family) (n m k : ℕ) (degree : k ≤ 64) (smaller : n ≤ m) (width : shiftedAlphabet F m k ≤ 64) (r : ℕ) where
-  narrow : shiftedAlphabet F n k ≤ 64
-  narrow = le-trans (narrower F n m k smaller) width
-
-  fewer : count F n k ≤ count F m k
-  fewer = choose-grows k (narrower F n m k smaller)
-
   pub narrow-index-exactly-when-wide-word-is-below :
       ((x : Index) × (unrankOverSays F n k r ≡ gives x)) ↔ ((y : Index) × (unrankOverSays F m k r ≡ gives y) × Below n (wordOf y))
   narrow-index-exactly-when-wide-word-is-below = (to, back)
@@ -97,14 +90,14 @@ module _ (F : Family) (n m k : ℕ) (degree : k ≤ 64) (smaller : n ≤ m) (wid
       to : (x : Index) × (unrankOverSays F n k r ≡ gives x) → (y : Index) × (unrankOverSays F m k r ≡ gives y) × Below n (wordOf y)
       to t =
           let i = unrank-over-gives-an-index-of-that-rank F n k r (t .0) (t .1) in
-          let b : r < count F m k = lt-of-lt-of-le (i .below) fewer in
+          let b : r < count F m k = lt-of-lt-of-le (i .below) (fewer F n m k smaller) in
           let s : wordOf (indexOf F m (unrankOf F k r)) ≡ unrankOf F k r = word-of-index F m (unrankOf F k r) (unrank-monotone F k r) in
           (indexOf F m (unrankOf F k r), over-gives F m k r degree width b, subst (Below n) (sym s) (below-n-exactly-when-rank-below-count F n m k r b .1 (i .below)))
 
       back : (y : Index) × (unrankOverSays F m k r ≡ gives y) × Below n (wordOf y) → (x : Index) × (unrankOverSays F n k r ≡ gives x)
       back t =
           let i = unrank-over-gives-an-index-of-that-rank F m k r (t .0) (t .1) in
-          (indexOf F n (unrankOf F k r), over-gives F n k r degree narrow (below-n-exactly-when-rank-below-count F n m k r (i .below) .0 (subst (Below n) (i .spells) (t .2))))
+          (indexOf F n (unrankOf F k r), over-gives F n k r degree (narrow F n m k smaller width) (below-n-exactly-when-rank-below-count F n m k r (i .below) .0 (subst (Below n) (i .spells) (t .2))))
 
   pub narrow-and-wide-indices-agree : (x y : Index) → unrankOverSays F n k r ≡ gives x → unrankOverSays F m k r ≡ gives y
       → (wordOf x ≡ wordOf y) × (x .bits ≡ y .bits)
@@ -118,5 +111,5 @@ module _ (F : Family) (n m k : ℕ) (degree : k ≤ 64) (smaller : n ≤ m) (wid
   where-only-wide-index-answers-narrow-says-no-such-rank y e none = go (decLe (count F n k) r)
     where
       go : Dec (count F n k ≤ r) → unrankOverSays F n k r ≡ refuses 3
-      go (yes l) = over-none F n k r degree narrow l
-      go (no l) = absurd (none (indexOf F n (unrankOf F k r)) (over-gives F n k r degree narrow (lt-of-not-le l)))
+      go (yes l) = over-none F n k r degree (narrow F n m k smaller width) l
+      go (no l) = absurd (none (indexOf F n (unrankOf F k r)) (over-gives F n k r degree (narrow F n m k smaller width) (lt-of-not-le l)))

@@ -8,7 +8,8 @@ use Rattle.words.specs.declared.Family.the-variants.{Allowed}
 use Rattle.words.specs.Factorial.{factorial}
 use Rattle.words.specs.Bits.{bitsOf, onesFrom}
 use Rattle.words.specs.Inversions.{smallerIn, multiplicity, crossings, equalPairs, inversions}
-use Rattle.bits.specs.Member.{holds, reaches}
+use Rattle.words.specs.Members.{standsIn}
+use Rattle.bits.specs.Member.{reaches}
 use Rattle.answers.specs.Says.{refuses}
 use Rattle.answers.specs.Terms.{indexOf}
 use Rattle.answers.proofs.Terms.{word-of-index}
@@ -42,7 +43,7 @@ equal-symbols-big = simp (word-of-index Allowed 1 (zeros 21) (rises-is-monotone 
 -- ---- the list
 
 pub orders-hold : AllConfirmed orders
-unfolding choose factorial bitsOf onesFrom smallerIn multiplicity crossings equalPairs inversions holds reaches takenArrangement numbered isGood zerosOnly isPermutation product cornerOf positionalValue
+unfolding choose factorial bitsOf onesFrom smallerIn multiplicity crossings equalPairs inversions standsIn reaches takenArrangement numbered isGood zerosOnly isPermutation product cornerOf positionalValue
     digitsOf insert sorted repeats ceilingOf stabilizerBelow sumOf added
 orders-hold =
     refl and refl and refl and refl and refl and refl and refl and refl

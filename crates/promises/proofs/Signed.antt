@@ -3,14 +3,13 @@
 --   a-sign-times-itself-is-plus    so the product of the two signs is plus
 use mathlib.Core.Path.{_≡_, refl, sym, ap, ap₂, subst, _∙_}
 use mathlib.Core.Bool.{false}
-use mathlib.Core.Logic.{inl, inr}
 use mathlib.Core.List.{List, [], _∷_, _++_}
-use Prim.Native.Nat.{ℕ, zero, suc, _+_, _<_, max}
-use native.Mathlib.Nat.{not-suc-le-zero, le-of-suc-le-suc, le-refl, le-max-left, max-le}
+use Prim.Native.Nat.{ℕ, zero, suc, _+_, max}
+use native.Mathlib.Nat.{le-refl, le-max-left, max-le}
 use native.Mathlib.Omega.{arith}
 use borrow.Author.Tests.{le-ltb, eq-eqb}
 use lib.Dec.{ltb}
-use lib.ListN.{length, getD, take, drop}
+use lib.ListN.{length, take, drop}
 use Rattle.words.specs.declared.Family.{Family}
 use Rattle.words.specs.declared.Family.the-variants.{Forbidden, Allowed}
 use Rattle.words.specs.Word.{Monotone, shiftedAlphabet}
@@ -18,12 +17,13 @@ use Rattle.words.specs.HowMany.{In}
 use Rattle.words.specs.Inversions.{crossings, multiplicity, equalPairs}
 use Rattle.words.proofs.Word.{monotone-weaker, alphabet-shorter}
 use Rattle.words.proofs.Positions.{below-at}
+use Rattle.words.proofs.Members.{at-in}
 use Rattle.words.proofs.Inversions.{merge-sign-is-left-larger}
 use Rattle.answers.specs.declared.Index.{Index}
 use Rattle.answers.specs.declared.Sign.{Sign}
 use Rattle.answers.specs.declared.Sign.the-variants.{Plus, Minus}
 use Rattle.answers.specs.Says.{gives}
-use Rattle.answers.specs.Signs.{signOf, times}
+use Rattle.answers.specs.Signs.{signOf, times, signIn}
 use Rattle.answers.specs.Terms.{indexOf, wordOf}
 use Rattle.taking.specs.Taken.{Accepted}
 use Rattle.taking.proofs.Accepted.{accepted-passes, index-accepted, taken-gives}
@@ -31,7 +31,7 @@ use Rattle.answers.proofs.Terms.{word-of-index, index-of-word, word-monotone}
 use Rattle.merging.specs.Sorting.{Rearranged, merged}
 use Rattle.merging.proofs.Sorting.{sorted-is-the-one}
 use Rattle.merging.proofs.Merging.{merged-is-sorted, merged-long}
-use Rattle.algebra.specs.Rules.{forbids, signIn, mergedWordsSays, mergeSays}
+use Rattle.algebra.specs.Rules.{forbids, mergedWordsSays, mergeSays}
 use Rattle.algebra.proofs.Promises.{by-words}
 use Rattle.deletion.specs.Rules.{Removed, removedSays, deleteSays}
 use Rattle.deletion.proofs.Rules.{Gone, delete-given}
@@ -43,11 +43,6 @@ unfolding multiplicity
 moved-to-front s zero v z = refl
 moved-to-front s (suc p) [] z = refl
 moved-to-front s (suc p) (y ∷ ys) z = omega (arith, moved-to-front s p ys z)
-
-at-in : (w : List ℕ) (p : ℕ) → p < length w → In (getD w p 0) w
-at-in [] p h = absurd (not-suc-le-zero h)
-at-in (x ∷ xs) zero h = inl refl
-at-in (x ∷ xs) (suc p) h = inr (at-in xs p (le-of-suc-le-suc h))
 
 -- a word that increases strictly has the symbol once, so what is left has it no more
 free : (F : Family) (s : ℕ) (v w : List ℕ) → Monotone F w → In s w → Rearranged (s ∷ v) w → forbids F (equalPairs (s ∷ []) v) ≡ false

@@ -25,11 +25,11 @@ use Rattle.monotone_walk.specs.Rules.{successorSays}
 use Rattle.algebra.specs.Rules.{mergeSays}
 use Rattle.deletion.specs.Rules.{Removed, deleteSays, complementSays}
 use Rattle.permutation.specs.Record.{recordOf}
-use Rattle.permutation_order.specs.Rules as permutation
-use Rattle.cartesian.specs.Rules as shape
+use Rattle.permutation_order.specs.Rules.{arrangementRankSays}
+use Rattle.cartesian.specs.Rules.{shapeCountSays, linearizeSays}
 use Rattle.cartesian_strides.specs.Rules.{stridesSays, cornerSays}
 use Rattle.digits.specs.declared.DigitWord.{DigitWord}
-use Rattle.digits.specs.Rules as digit
+use Rattle.digits.specs.Rules.{TakenOut, fromSymbolsSays, digitDeleteSays}
 
 -- ---- cases
 
@@ -69,7 +69,7 @@ removed s a x = record { sign = s; symbol = a; index = x }
 abbrev pub digits : ℕ → ℕ → ℕ → DigitWord
 digits n k r = record { radix = n; degree = k; rank = r }
 
-abbrev pub takenOut : ℕ → DigitWord → digit.TakenOut
+abbrev pub takenOut : ℕ → DigitWord → TakenOut
 takenOut a x = record { symbol = a; left = x }
 
 -- ---- the twelve points
@@ -105,17 +105,17 @@ cases =
     -- 8. complement of {0,2} in 4: minus, {1,3}
     ∷ complementSays (setOf (0 ∷ 2 ∷ [])) 4 is gives (signed Minus (indexOf Forbidden 4 (1 ∷ 3 ∷ [])))
     -- 9. permutation ranks: (2,1,0) 0; (0,2,1) 3; (0,1,2) 5; empty 0
-    ∷ permutation.arrangementRankSays (recordOf (2 ∷ 1 ∷ 0 ∷ [])) is gives 0
-    ∷ permutation.arrangementRankSays (recordOf (0 ∷ 2 ∷ 1 ∷ [])) is gives 3
-    ∷ permutation.arrangementRankSays (recordOf (0 ∷ 1 ∷ 2 ∷ [])) is gives 5
-    ∷ permutation.arrangementRankSays (recordOf []) is gives 0
+    ∷ arrangementRankSays (recordOf (2 ∷ 1 ∷ 0 ∷ [])) is gives 0
+    ∷ arrangementRankSays (recordOf (0 ∷ 2 ∷ 1 ∷ [])) is gives 3
+    ∷ arrangementRankSays (recordOf (0 ∷ 1 ∷ 2 ∷ [])) is gives 5
+    ∷ arrangementRankSays (recordOf []) is gives 0
     -- 10. radices (2,3,4), digits (1,2,3): 23 of 24; strides 1,2,6
-    ∷ shape.linearizeSays (2 ∷ 3 ∷ 4 ∷ []) (1 ∷ 2 ∷ 3 ∷ []) is gives 23
-    ∷ shape.shapeCountSays (2 ∷ 3 ∷ 4 ∷ []) is gives 24
+    ∷ linearizeSays (2 ∷ 3 ∷ 4 ∷ []) (1 ∷ 2 ∷ 3 ∷ []) is gives 23
+    ∷ shapeCountSays (2 ∷ 3 ∷ 4 ∷ []) is gives 24
     ∷ stridesSays (2 ∷ 3 ∷ 4 ∷ []) 3 is gives (1 ∷ 2 ∷ 6 ∷ [])
     -- 11. radix 3 symbols (2,0,1): rank 11; delete position 1: symbol 0, rank 5
-    ∷ digit.fromSymbolsSays 3 (2 ∷ 0 ∷ 1 ∷ []) is gives (digits 3 3 11)
-    ∷ digit.digitDeleteSays (digits 3 3 11) 1 is gives (takenOut 0 (digits 3 2 5))
+    ∷ fromSymbolsSays 3 (2 ∷ 0 ∷ 1 ∷ []) is gives (digits 3 3 11)
+    ∷ digitDeleteSays (digits 3 3 11) 1 is gives (takenOut 0 (digits 3 2 5))
     -- 12. corner {1,2} of radices (2^63,1,1): refusal 9
     ∷ cornerSays (2 ^ 63 ∷ 1 ∷ 1 ∷ []) (bitsOf (1 ∷ 2 ∷ [])) is refuses 9
     ∷ []

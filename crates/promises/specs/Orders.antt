@@ -22,11 +22,11 @@ use Rattle.deletion.specs.Rules.{deleteSays, complementSays, stabilizerSays}
 use Rattle.permutation.specs.Record.{recordOf}
 use Rattle.permutation.specs.Rules.{imageSays}
 use Rattle.permutation_group.specs.Rules.{inverseSays, composeSays, signSays}
-use Rattle.permutation_order.specs.Rules as order
-use Rattle.cartesian.specs.Rules as shape
+use Rattle.permutation_order.specs.Rules.{arrangementRankSays, arrangementUnrankSays, arrangementSuccessorSays}
+use Rattle.cartesian.specs.Rules.{shapeCountSays, linearizeSays, delinearizeSays}
 use Rattle.cartesian_strides.specs.Rules.{stridesSays, cornerSays}
-use Rattle.digits.specs.Rules as digit
-use Rattle.composition.specs.Rules as exponents
+use Rattle.digits.specs.Rules.{digitCountSays, fromSymbolsSays, symbolsSays, digitSymbolSays, multiplicitySays, digitStabilizerSays, concatSays, digitDeleteSays}
+use Rattle.composition.specs.Rules.{wordSays, fromWordSays, addSays}
 use Rattle.composition_rank.specs.Rules.{fromRankSays}
 use Rattle.promises.specs.Checked.{Case, _is_, digits}
 
@@ -95,51 +95,51 @@ orders =
     ∷ signSays (recordOf (zeros 99)) is refuses 1
     ∷ composeSays (recordOf (zeros 2)) (recordOf (zeros 99)) is refuses 1
     ∷ composeSays (recordOf (zeros 2)) (recordOf (zeros 3)) is refuses 8
-    ∷ order.arrangementRankSays (recordOf (zeros 99)) is refuses 1
-    ∷ order.arrangementUnrankSays 21 (2 ^ 63) is refuses 1
-    ∷ order.arrangementSuccessorSays (recordOf (zeros 99)) is refuses 1
-    ∷ order.arrangementSuccessorSays (recordOf (1 ∷ 1 ∷ [])) is refuses 10
+    ∷ arrangementRankSays (recordOf (zeros 99)) is refuses 1
+    ∷ arrangementUnrankSays 21 (2 ^ 63) is refuses 1
+    ∷ arrangementSuccessorSays (recordOf (zeros 99)) is refuses 1
+    ∷ arrangementSuccessorSays (recordOf (1 ∷ 1 ∷ [])) is refuses 10
     -- shapes: count 1, 9; strides 1, 9, 8; linearize 1, 8, 7, 9; delinearize 1, 9, 3, 8; corner 1, 7, 9
-    ∷ shape.shapeCountSays (all 17 (2 ^ 40)) is refuses 1
+    ∷ shapeCountSays (all 17 (2 ^ 40)) is refuses 1
     ∷ stridesSays (all 17 (2 ^ 40)) 0 is refuses 1
     ∷ stridesSays (all 3 (2 ^ 40)) 0 is refuses 9
-    ∷ shape.linearizeSays (all 17 2) [] is refuses 1
-    ∷ shape.linearizeSays (2 ∷ 2 ∷ []) (5 ∷ []) is refuses 8
-    ∷ shape.linearizeSays (all 2 (2 ^ 40)) (all 2 (2 ^ 40)) is refuses 7
-    ∷ shape.delinearizeSays (all 17 (2 ^ 40)) 0 0 is refuses 1
-    ∷ shape.delinearizeSays (all 2 (2 ^ 40)) 0 0 is refuses 9
-    ∷ shape.delinearizeSays (2 ∷ []) 2 0 is refuses 3
-    ∷ shape.delinearizeSays (2 ∷ []) 1 0 is refuses 8
+    ∷ linearizeSays (all 17 2) [] is refuses 1
+    ∷ linearizeSays (2 ∷ 2 ∷ []) (5 ∷ []) is refuses 8
+    ∷ linearizeSays (all 2 (2 ^ 40)) (all 2 (2 ^ 40)) is refuses 7
+    ∷ delinearizeSays (all 17 (2 ^ 40)) 0 0 is refuses 1
+    ∷ delinearizeSays (all 2 (2 ^ 40)) 0 0 is refuses 9
+    ∷ delinearizeSays (2 ∷ []) 2 0 is refuses 3
+    ∷ delinearizeSays (2 ∷ []) 1 0 is refuses 8
     ∷ cornerSays (all 17 (2 ^ 40)) 12 is refuses 1
     ∷ cornerSays (2 ^ 63 ∷ 2 ∷ 1 ∷ []) 12 is refuses 7
     -- digit words: from symbols 1, 7, 9; the word's own 1, 9, 3 ahead of the call's; concatenation: the first word's, the second's, 8, 1, 9
-    ∷ digit.digitCountSays 2 65 is refuses 1
-    ∷ digit.fromSymbolsSays 2 (all 65 2) is refuses 1
-    ∷ digit.fromSymbolsSays 2 (all 64 2) is refuses 7
-    ∷ digit.symbolsSays (digits 2 65 0) 0 is refuses 1
-    ∷ digit.symbolsSays (digits 2 64 0) 0 is refuses 9
-    ∷ digit.symbolsSays (digits 2 1 2) 0 is refuses 3
-    ∷ digit.symbolsSays (digits 2 1 1) 0 is refuses 8
-    ∷ digit.digitSymbolSays (digits 2 1 2) 9 is refuses 3
-    ∷ digit.digitDeleteSays (digits 2 1 2) 9 is refuses 3
-    ∷ digit.multiplicitySays (digits 2 65 0) 0 is refuses 1
-    ∷ digit.digitStabilizerSays (digits 1 21 1) is refuses 3
-    ∷ digit.digitStabilizerSays (digits 1 21 0) is refuses 9
-    ∷ digit.concatSays (digits 2 3 8) (digits 2 65 0) is refuses 3
-    ∷ digit.concatSays (digits 2 3 0) (digits 3 65 0) is refuses 1
-    ∷ digit.concatSays (digits 2 40 0) (digits 3 40 0) is refuses 8
-    ∷ digit.concatSays (digits 2 40 0) (digits 2 40 0) is refuses 1
-    ∷ digit.concatSays (digits 2 32 0) (digits 2 32 0) is refuses 9
+    ∷ digitCountSays 2 65 is refuses 1
+    ∷ fromSymbolsSays 2 (all 65 2) is refuses 1
+    ∷ fromSymbolsSays 2 (all 64 2) is refuses 7
+    ∷ symbolsSays (digits 2 65 0) 0 is refuses 1
+    ∷ symbolsSays (digits 2 64 0) 0 is refuses 9
+    ∷ symbolsSays (digits 2 1 2) 0 is refuses 3
+    ∷ symbolsSays (digits 2 1 1) 0 is refuses 8
+    ∷ digitSymbolSays (digits 2 1 2) 9 is refuses 3
+    ∷ digitDeleteSays (digits 2 1 2) 9 is refuses 3
+    ∷ multiplicitySays (digits 2 65 0) 0 is refuses 1
+    ∷ digitStabilizerSays (digits 1 21 1) is refuses 3
+    ∷ digitStabilizerSays (digits 1 21 0) is refuses 9
+    ∷ concatSays (digits 2 3 8) (digits 2 65 0) is refuses 3
+    ∷ concatSays (digits 2 3 0) (digits 3 65 0) is refuses 1
+    ∷ concatSays (digits 2 40 0) (digits 3 40 0) is refuses 8
+    ∷ concatSays (digits 2 40 0) (digits 2 40 0) is refuses 1
+    ∷ concatSays (digits 2 32 0) (digits 2 32 0) is refuses 9
     -- exponents: word 1, 8; from a word 1, 7, 8; from a rank 1, 3, 8; addition 1, 1, 8 (lengths), 1 (sum), 8 (room)
-    ∷ exponents.wordSays (40 ∷ 40 ∷ []) 0 is refuses 1
-    ∷ exponents.fromWordSays 64 (99 ∷ 99 ∷ []) 0 is refuses 1
-    ∷ exponents.fromWordSays 2 (9 ∷ []) 0 is refuses 7
-    ∷ exponents.fromWordSays 2 (1 ∷ []) 0 is refuses 8
+    ∷ wordSays (40 ∷ 40 ∷ []) 0 is refuses 1
+    ∷ fromWordSays 64 (99 ∷ 99 ∷ []) 0 is refuses 1
+    ∷ fromWordSays 2 (9 ∷ []) 0 is refuses 7
+    ∷ fromWordSays 2 (1 ∷ []) 0 is refuses 8
     ∷ fromRankSays 64 2 (2 ^ 63) 0 is refuses 1
     ∷ fromRankSays 2 2 3 0 is refuses 3
     ∷ fromRankSays 3 2 3 0 is refuses 8
-    ∷ exponents.addSays (1 ∷ []) (65 ∷ 0 ∷ []) 0 is refuses 1
-    ∷ exponents.addSays (40 ∷ []) (40 ∷ 0 ∷ []) 0 is refuses 8
-    ∷ exponents.addSays (40 ∷ []) (40 ∷ []) 0 is refuses 1
-    ∷ exponents.addSays (1 ∷ []) (1 ∷ []) 0 is refuses 8
+    ∷ addSays (1 ∷ []) (65 ∷ 0 ∷ []) 0 is refuses 1
+    ∷ addSays (40 ∷ []) (40 ∷ 0 ∷ []) 0 is refuses 8
+    ∷ addSays (40 ∷ []) (40 ∷ []) 0 is refuses 1
+    ∷ addSays (1 ∷ []) (1 ∷ []) 0 is refuses 8
     ∷ []

@@ -4,7 +4,7 @@
 --   Passed texts ahead kinds₀ values₀ kinds values n    the first n of the texts are taken in, those ahead are not
 --   passed-none, passed-one, passed-all    at the beginning, one text further, and at the end
 --   passed-bad, passed-full    a text that says no word, and one that has no place, make the texts bad
-use mathlib.Core.Bool.{true, false, not}
+use mathlib.Core.Bool.{true, false, not, true≢false}
 use mathlib.Core.Path.{_≡_, refl, sym, ap, subst, _∙_}
 use mathlib.Core.List.{List, [], _∷_, _++_, map, append-assoc, append-nil}
 use Prim.Native.Nat.{ℕ, suc, _+_, _≤_, _<_}
@@ -22,9 +22,6 @@ use Rattle.text.specs.declared.Number.{Number}
 use Rattle.text.specs.declared.Number.the-variants as read
 use Rattle.requests.specs.Protocol.{LineWord, number, family, slash, here, nowhere, raw, hereName, nowhereName, rawName, Spells, AllSpell}
 use Rattle.requests.specs.Parts.{kindOf, valueOf, kindsOf, valuesOf, KindOf, WordIn, TakenIn, TakesAll}
-
-apart : true ≡ false → ⊥
-apart e = let z : _≡_ {A = ℕ} 0 1 = cc in omega arith
 
 -- ---- one text
 
@@ -45,7 +42,7 @@ no-kind text r e o d h w a =
 
 module _ (text : List ℕ) (i : ℕ) (kinds values : List ℕ) where
   pub number-in : (r : Number) (n : ℕ) → r ≡ read.Is n → Reads text r → TakenIn text i kinds values (set kinds i 110) (set values i n) true
-  number-in r n e o = record { one = λ t. record { word = number n; says = subst (Reads text) e o; kind = refl; value = refl }; none = λ t. absurd (apart t) }
+  number-in r n e o = record { one = λ t. record { word = number n; says = subst (Reads text) e o; kind = refl; value = refl }; none = λ t. absurd (true≢false t) }
 
   pub other-in : (r : Number) (k : ℕ) → r ≡ read.Bad → Reads text r → KindOf text k → TakenIn text i kinds values (set kinds i k) (set values i 0) (not (eqb k 0))
   other-in r k e o q = record { one = one; none = none }

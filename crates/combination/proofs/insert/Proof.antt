@@ -6,8 +6,8 @@ use borrow.Author.Needs.{needs}
 use borrow.Author.Tests.{lt-ltb, le-ltb}
 use lib.Bits.{bitOr}
 use Rattle.words.specs.Bits.{setBits}
-use Rattle.bits.specs.Member.{holds}
-use Rattle.bits.proofs.Member.{holds-not}
+use Rattle.words.specs.Members.{standsIn}
+use Rattle.words.proofs.Members.{stands-is-not-in}
 use Rattle.packing.proofs.Checks.{one-shl}
 use Rattle.combination.proofs.Inserting.{with-one}
 use Rattle.combination.proofs.insert.Statement.{statement}
@@ -29,8 +29,8 @@ returns-3 : tie.Need-returns-3
 returns-3 c =
     let a = c .before .before .before .args .set in
     let s = c .before .before .before .args .s in
-    let n : holds s (setBits a) ≡ false = sym (c .before .contains .ensures) ∙ c .if2 .left in
-    simp (le-ltb _ _ (c .before .before .if1 .left), n, ap (bitOr a) (one-shl 64 s (omega arith)) ∙ with-one a s (holds-not s (setBits a) .0 n))
+    let n : standsIn s (setBits a) ≡ false = sym (c .before .contains .ensures) ∙ c .if2 .left in
+    simp (le-ltb _ _ (c .before .before .if1 .left), n, ap (bitOr a) (one-shl 64 s (omega arith)) ∙ with-one a s (stands-is-not-in s (setBits a) .0 n))
 
 pub insert-spec : {M : Type 1} → statement M
 insert-spec = tie.close (tie.spec returns contains-requires returns-2 shl-digit returns-3)
