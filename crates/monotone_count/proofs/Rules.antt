@@ -1,19 +1,18 @@
 -- What an answer of the count tells of its arguments, and the other way round. Assumes nothing.
 --   Counted F n k c    the width limits hold, and c is the count
---   count-given, count-gives, count-refused    what `countSays` gives, when, and when it refuses
+--   count-given, count-gives    what `countSays` gives, and when
 --   start-bits    the k lowest bits are the first word
 use mathlib.Core.Path.{_≡_, sym, ap, _∙_}
 use mathlib.Core.Bool.{true, false}
-use mathlib.Core.Logic.{_⊎_, inl, inr}
 use Prim.Native.Nat.{ℕ, _^_, _≤_, _<_, suc}
 use native.Mathlib.Omega.{arith}
-use borrow.Author.Tests.{ltb-true, ltb-false, le-ltb}
+use borrow.Author.Tests.{ltb-false, le-ltb}
 use lib.Dec.{ltb}
 use Rattle.words.specs.declared.Family.{Family}
 use Rattle.words.specs.Word.{shifted, shiftedAlphabet, count}
 use Rattle.words.specs.Bits.{bitsOf}
-use Rattle.answers.specs.Says.{refuses, gives, refusedIf}
-use Rattle.answers.proofs.Says.{gives-same, gives-no-refusal, passed, stopped}
+use Rattle.answers.specs.Says.{gives, refusedIf}
+use Rattle.answers.proofs.Says.{gives-same, passed}
 use Rattle.monotone_count.specs.Rules.{countSays}
 use Rattle.words.specs.Next.{first}
 use Rattle.words.proofs.Ends.{first-bits}
@@ -37,19 +36,6 @@ count-given F n k c e = go (passed (ltb 64 k) 1 (refusedIf (ltb 64 (shiftedAlpha
 
 pub count-gives : (F : Family) (n k : ℕ) → k ≤ 64 → shiftedAlphabet F n k ≤ 64 → countSays F n k ≡ gives (count F n k)
 count-gives F n k h l = simp (le-ltb 64 k h, le-ltb 64 (shiftedAlphabet F n k) l)
-
-pub count-refused : (F : Family) (n k d : ℕ) → countSays F n k ≡ refuses d → (d ≡ 1) × ((64 < k) ⊎ (64 < shiftedAlphabet F n k))
-count-refused F n k d e = go (stopped (ltb 64 k) 1 (refusedIf (ltb 64 (shiftedAlphabet F n k)) 1 (gives (count F n k))) d e)
-  where
-    rest : ((ltb 64 (shiftedAlphabet F n k) ≡ true) × (1 ≡ d)) ⊎ ((ltb 64 (shiftedAlphabet F n k) ≡ false) × (gives (count F n k) ≡ refuses d))
-        → (d ≡ 1) × ((64 < k) ⊎ (64 < shiftedAlphabet F n k))
-    rest (inl q) = (sym (q .1), inr (ltb-true 64 (shiftedAlphabet F n k) (q .0)))
-    rest (inr q) = absurd (gives-no-refusal (count F n k) d (q .1))
-
-    go : ((ltb 64 k ≡ true) × (1 ≡ d)) ⊎ ((ltb 64 k ≡ false) × (refusedIf (ltb 64 (shiftedAlphabet F n k)) 1 (gives (count F n k)) ≡ refuses d))
-        → (d ≡ 1) × ((64 < k) ⊎ (64 < shiftedAlphabet F n k))
-    go (inl p) = (sym (p .1), inl (ltb-true 64 k (p .0)))
-    go (inr p) = rest (stopped (ltb 64 (shiftedAlphabet F n k)) 1 (gives (count F n k)) d (p .1))
 
 pub start-bits : (F : Family) (k r : ℕ) → k ≤ 64 → suc r ≡ 2 ^ clamped k → r ≡ bitsOf (shifted F (first F k))
 start-bits F k r h e = omega (arith, e ∙ ap (λ (j : ℕ). 2 ^ j) (clamped-within k h), first-bits k, ap bitsOf (shifted-first F k))

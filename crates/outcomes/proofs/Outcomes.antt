@@ -1,6 +1,6 @@
 -- No second outcome: an answer is told by what it says. A contract is an equation between what an answer says and a definition, so it leaves one answer.
 -- Assumes nothing.
---   one-refusal    a refusal is told by its number and what it carries
+--   one-refusal, one-refusal-by-place    a refusal is told by its number and what it carries, and by its number and its place
 --   one-answer, one-index, one-signed    a number, an index, a sign with an index
 --   one-start, one-step    a walk, and a step of it
 --   one-deletion, one-digit-deletion    a deletion from an index, and from a digit word
@@ -48,13 +48,13 @@ use Rattle.permutation.specs.Record.{verdictSays, signatureSays, Arranges}
 
 -- ---- refusals
 
-refusalOf : ℕ → List ℕ → Refusal
-refusalOf n c =
+refusalOf : ℕ → ℕ → Refusal
+refusalOf n p =
     getD
-    (TooWide ∷ TooWide ∷ NotMonotone (placeOf c) ∷ NoSuchRank ∷ Last ∷ Repeated ∷ FamilyDiffers ∷ Outside ∷ Shape ∷ TooBig ∷ NotAPermutation ∷ BadImage (placeOf c) ∷ NoSuchTable ∷ [])
+    (TooWide ∷ TooWide ∷ NotMonotone p ∷ NoSuchRank ∷ Last ∷ Repeated ∷ FamilyDiffers ∷ Outside ∷ Shape ∷ TooBig ∷ NotAPermutation ∷ BadImage p ∷ NoSuchTable ∷ [])
     n TooWide
 
-refusal-back : (e : Refusal) → refusalOf (numberOf e) (carriedBy e) ≡ e
+refusal-back : (e : Refusal) → refusalOf (numberOf e) (placeOf (carriedBy e)) ≡ e
 unfolding refusalOf
 refusal-back TooWide = refl
 refusal-back (NotMonotone at) = refl
@@ -69,8 +69,11 @@ refusal-back NotAPermutation = refl
 refusal-back (BadImage at) = refl
 refusal-back NoSuchTable = refl
 
+pub one-refusal-by-place : (d e : Refusal) → numberOf d ≡ numberOf e → placeOf (carriedBy d) ≡ placeOf (carriedBy e) → d ≡ e
+one-refusal-by-place d e n p = sym (refusal-back d) ∙ ap₂ refusalOf n p ∙ refusal-back e
+
 pub one-refusal : (d e : Refusal) → numberOf d ≡ numberOf e → carriedBy d ≡ carriedBy e → d ≡ e
-one-refusal d e n c = sym (refusal-back d) ∙ ap₂ refusalOf n c ∙ refusal-back e
+one-refusal d e n c = one-refusal-by-place d e n (ap placeOf c)
 
 refused : {A : Type 0} (d e : Refusal) → _≡_ {A = Says A} (refusesWith (numberOf d) (carriedBy d)) (refusesWith (numberOf e) (carriedBy e)) → d ≡ e
 refused d e q = one-refusal d e (cc) (cc)

@@ -7,3 +7,4 @@ pub mod Signed
 pub mod Checked
 pub mod Indices
 pub mod Orders
+pub mod Exponents

@@ -1,0 +1,22 @@
+-- The family of what an answer gives: it does not cross, since it is the one that was asked for. Assumes nothing.
+--   IndexIn F a, SignedIn F a, DeletedIn F a    if the answer gives an index, alone, with a sign or after a deletion, it is of family F
+use mathlib.Core.Path.{_≡_}
+use Rattle.words.specs.declared.Family.{Family}
+use Rattle.answers.specs.declared.Indexed.{Indexed}
+use Rattle.answers.specs.declared.Indexed.the-variants as indexed
+use Rattle.answers.specs.declared.Signed.{Signed}
+use Rattle.answers.specs.declared.Signed.the-variants as signed
+use Rattle.deletion.specs.declared.Deleted.{Deleted}
+use Rattle.deletion.specs.declared.Deleted.the-variants as deleted
+
+abbrev pub IndexIn : Family → Indexed → Type 0
+IndexIn F (indexed.At x) = x .family ≡ F
+IndexIn F (indexed.Refused e) = Unit {0}
+
+abbrev pub SignedIn : Family → Signed → Type 0
+SignedIn F (signed.At s x) = x .family ≡ F
+SignedIn F (signed.Refused e) = Unit {0}
+
+abbrev pub DeletedIn : Family → Deleted → Type 0
+DeletedIn F (deleted.At s v x) = x .family ≡ F
+DeletedIn F (deleted.Refused e) = Unit {0}
