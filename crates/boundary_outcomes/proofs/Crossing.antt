@@ -4,6 +4,7 @@
 --   no-refusal-is-answered    none comes back as an answer does
 --   one-stored-number    two answers of a number that come back alike and leave the same in the caller's place are the same
 --   one-stored-index, one-stored-signed, one-stored-deletion    the same of an index, of a sign with one and of a deletion, where the family is the one that was asked for
+--   one-stored-start, one-stored-step    and of a walk and of a step of it
 use mathlib.Core.Path.{_≡_, refl, sym, ap, ap₂, _∙_}
 use mathlib.Core.Bool.{Bool, true≢false}
 use Prim.Native.Nat.{ℕ, _<_}
@@ -21,12 +22,21 @@ use Rattle.answers.specs.declared.Indexed.the-variants as indexed
 use Rattle.answers.specs.declared.Signed.{Signed}
 use Rattle.answers.specs.declared.Signed.the-variants as signed
 use Rattle.answers.specs.Says.{numberOf, carriedBy, answerSays, indexedSays, signedSays}
+use Rattle.monotone_walk.specs.declared.Current.{Current}
+use Rattle.monotone_walk.specs.declared.Current.the-variants.{At, Nothing}
+use Rattle.monotone_walk.specs.declared.Walk.{Walk}
+use Rattle.monotone_walk.specs.declared.Started.{Started}
+use Rattle.monotone_walk.specs.declared.Started.the-variants as started
+use Rattle.monotone_walk.specs.declared.Stepped.{Stepped}
+use Rattle.monotone_walk.specs.declared.Stepped.the-variants as stepped
+use Rattle.monotone_walk.specs.Walks.{startedSays, steppedSays}
 use Rattle.deletion.specs.declared.Deleted.{Deleted}
 use Rattle.deletion.specs.declared.Deleted.the-variants as deleted
 use Rattle.deletion.specs.Rules.{deletedSays}
 use Rattle.boundary.specs.declared.Status.{Status}
 use Rattle.boundary.specs.Boundary.{answered, refusedWith, status, stored, itself, minus, alphabetOfIndex, bitsOfIndex, minusOfTerm, alphabetOfTerm, bitsOfTerm, minusOfRemoved, symbolOfRemoved, alphabetOfRemoved, bitsOfRemoved}
-use Rattle.boundary_outcomes.specs.Families.{IndexIn, SignedIn, DeletedIn}
+use Rattle.boundary.specs.Boundary.{standsSomewhere, alphabetThere, bitsThere, standingOf, overOf, atOf, remainingOf, alphabetGiven, bitsGiven, standingAfter, overAfter, atAfter, remainingAfter}
+use Rattle.boundary_outcomes.specs.Families.{IndexIn, SignedIn, DeletedIn, CurrentIn, StartedIn, SteppedIn}
 use Rattle.outcomes.proofs.Outcomes.{one-refusal-by-place}
 
 -- ---- what comes back
@@ -63,6 +73,16 @@ one-record : (x y : Index) → x .family ≡ y .family → x .alphabet ≡ y .al
 one-record x y f n b =
     ap₂ (λ (F : Family) (m : ℕ). record { family = F; alphabet = m; bits = x .bits }) f n ∙ ap (λ (c : ℕ). record { family = y .family; alphabet = y .alphabet; bits = c }) b
 
+one-current : (F : Family) (c d : Current) → CurrentIn F c → CurrentIn F d → standsSomewhere c ≡ standsSomewhere d → alphabetThere c ≡ alphabetThere d → bitsThere c ≡ bitsThere d → c ≡ d
+one-current F (At x) (At y) f g s n b = ap At (one-record x y (f ∙ sym g) n b)
+one-current F (At x) Nothing f g s n b = absurd (true≢false s)
+one-current F Nothing (At y) f g s n b = absurd (true≢false (sym s))
+one-current F Nothing Nothing f g s n b = refl
+
+one-walk : (F : Family) (s t : Walk) → CurrentIn F (s .current) → CurrentIn F (t .current) → standingOf s ≡ standingOf t → overOf s ≡ overOf t → atOf s ≡ atOf t
+    → remainingOf s ≡ remainingOf t → s ≡ t
+one-walk F s t f g h n b r = ap₂ (λ (c : Current) (k : ℕ). record { current = c; remaining = k }) (one-current F (s .current) (t .current) f g h n b) r
+
 -- ---- the answers
 
 pub one-stored-number : (a b : Answer) (old : ℕ) → status (answerSays a) ≡ status (answerSays b) → stored itself (answerSays a) old ≡ stored itself (answerSays b) old → a ≡ b
@@ -94,3 +114,21 @@ one-stored-deletion F (deleted.At p i x) (deleted.At q j y) t v m o f g s h k n 
 one-stored-deletion F (deleted.At p i x) (deleted.Refused d) t v m o f g s h k n b = absurd (no-refusal-is-answered d s)
 one-stored-deletion F (deleted.Refused c) (deleted.At q j y) t v m o f g s h k n b = absurd (no-refusal-is-answered c (sym s))
 one-stored-deletion F (deleted.Refused c) (deleted.Refused d) t v m o f g s h k n b = ap deleted.Refused (one-status c d s)
+
+pub one-stored-start : (F : Family) (a b : Started) (t : Bool) (m o k : ℕ) → StartedIn F a → StartedIn F b → status (startedSays a) ≡ status (startedSays b)
+    → stored standingOf (startedSays a) t ≡ stored standingOf (startedSays b) t → stored overOf (startedSays a) m ≡ stored overOf (startedSays b) m
+    → stored atOf (startedSays a) o ≡ stored atOf (startedSays b) o → stored remainingOf (startedSays a) k ≡ stored remainingOf (startedSays b) k → a ≡ b
+one-stored-start F (started.Walk u) (started.Walk v) t m o k f g s h n b r = ap started.Walk (one-walk F u v f g h n b r)
+one-stored-start F (started.Walk u) (started.Refused d) t m o k f g s h n b r = absurd (no-refusal-is-answered d s)
+one-stored-start F (started.Refused c) (started.Walk v) t m o k f g s h n b r = absurd (no-refusal-is-answered c (sym s))
+one-stored-start F (started.Refused c) (started.Refused d) t m o k f g s h n b r = ap started.Refused (one-status c d s)
+
+pub one-stored-step : (F : Family) (a b : Stepped) (t : Bool) (i j m o k : ℕ) → SteppedIn F a → SteppedIn F b → status (steppedSays a) ≡ status (steppedSays b)
+    → stored alphabetGiven (steppedSays a) i ≡ stored alphabetGiven (steppedSays b) i → stored bitsGiven (steppedSays a) j ≡ stored bitsGiven (steppedSays b) j
+    → stored standingAfter (steppedSays a) t ≡ stored standingAfter (steppedSays b) t → stored overAfter (steppedSays a) m ≡ stored overAfter (steppedSays b) m
+    → stored atAfter (steppedSays a) o ≡ stored atAfter (steppedSays b) o → stored remainingAfter (steppedSays a) k ≡ stored remainingAfter (steppedSays b) k → a ≡ b
+one-stored-step F (stepped.Step x u) (stepped.Step y v) t i j m o k f g s p q h n b r =
+    ap₂ stepped.Step (one-record x y (f .0 ∙ sym (g .0)) p q) (one-walk F u v (f .1) (g .1) h n b r)
+one-stored-step F (stepped.Step x u) (stepped.Refused d) t i j m o k f g s p q h n b r = absurd (no-refusal-is-answered d s)
+one-stored-step F (stepped.Refused c) (stepped.Step y v) t i j m o k f g s p q h n b r = absurd (no-refusal-is-answered c (sym s))
+one-stored-step F (stepped.Refused c) (stepped.Refused d) t i j m o k f g s p q h n b r = ap stepped.Refused (one-status c d s)
