@@ -100,7 +100,8 @@ extern "C" {
 /* What every function returns, by value: on x86-64 in two registers. */
 typedef struct gudrenoss_refusal {
     uint64_t number; /* one of the numbers below; 0 is an answer */
-    uint64_t at;     /* the place that the refusal tells: for 2 the position at which the word breaks its rule; otherwise 0 */
+    uint64_t at;     /* the place that the refusal tells: for 2 the position at which the word breaks its rule, for 11 the offset of the
+                      * first wrong field of the image; otherwise 0 */
 } gudrenoss_refusal;
 
 /* The number of a refusal. */
@@ -115,7 +116,9 @@ enum gudrenoss_number {
     GUDRENOSS_OUTSIDE = 7,            /* a symbol, digit, axis or position is not below its bound, or the symbol is absent */
     GUDRENOSS_SHAPE = 8,              /* lengths or radices differ, or a buffer has too little room */
     GUDRENOSS_TOO_BIG = 9,            /* the number to be stated is 2^64 or more */
-    GUDRENOSS_NOT_A_PERMUTATION = 10  /* the entries are no bijection of 0 .. len - 1, or one past the length is not zero */
+    GUDRENOSS_NOT_A_PERMUTATION = 10, /* the entries are no bijection of 0 .. len - 1, or one past the length is not zero */
+    GUDRENOSS_BAD_IMAGE = 11,         /* a field of the image is wrong, it ends early or has bytes left over; at tells where */
+    GUDRENOSS_NO_SUCH_TABLE = 12      /* the image has no table of that family and degree */
 };
 
 /* What the number of a refusal means, in a few words. It stands here and not in the library. */
@@ -133,6 +136,8 @@ static inline const char *gudrenoss_refusal_text(uint64_t number)
     case GUDRENOSS_SHAPE: return "lengths or radices differ, or a buffer is too short";
     case GUDRENOSS_TOO_BIG: return "the number is 2^64 or more";
     case GUDRENOSS_NOT_A_PERMUTATION: return "the entries are no permutation";
+    case GUDRENOSS_BAD_IMAGE: return "the image is bad";
+    case GUDRENOSS_NO_SUCH_TABLE: return "the image has no such table";
     default: return "no function gives this number";
     }
 }

@@ -805,7 +805,7 @@ static struct outcome call_exponents_add(void)
 struct target {
     const char *name;
     struct outcome (*call)(void);
-    uint64_t given[11], broken; /* how often each refusal was given, 0 for an answer */
+    uint64_t given[13], broken; /* how often each refusal was given, 0 for an answer */
 };
 
 #define TARGET(name) {#name, call_##name, {0}, 0}
@@ -862,12 +862,12 @@ static void run(struct target *t, uint64_t seed)
 static void print_target(const struct target *t)
 {
     uint64_t refusals = 0;
-    for (int i = 1; i <= 10; i++)
+    for (int i = 1; i <= 12; i++)
         refusals += t->given[i];
     printf("%-22s %9llu calls %9llu answers %9llu refusals ", t->name,
         (unsigned long long)(t->given[0] + refusals + t->broken), (unsigned long long)t->given[0],
         (unsigned long long)refusals);
-    for (int i = 1; i <= 10; i++)
+    for (int i = 1; i <= 12; i++)
         if (t->given[i] > 0)
             printf(" %d: %llu", i, (unsigned long long)t->given[i]);
     printf("\n");

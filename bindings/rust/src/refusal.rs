@@ -28,6 +28,14 @@ pub enum Refusal {
     TooBig,
     /// The entries are no bijection of 0 .. length - 1.
     NotAPermutation,
+    /// A field of an image is wrong, or the image ends early or has bytes left over.
+    BadImage {
+        /// The offset of the first wrong field in reading order; for an image that ends early its own length, for bytes left over the
+        /// first of them.
+        at: u64,
+    },
+    /// The image is good, and has no table of that family and degree.
+    NoSuchTable,
 }
 
 impl Refusal {
@@ -52,12 +60,14 @@ impl Refusal {
             8 => Refusal::Shape,
             9 => Refusal::TooBig,
             10 => Refusal::NotAPermutation,
+            11 => Refusal::BadImage { at },
+            12 => Refusal::NoSuchTable,
             _ => return None,
         };
         (refusal.at() == at).then_some(refusal)
     }
 
-    /// Its number in `docs/RULES.md` and `include/gudrenoss.h`, from 1 to 10.
+    /// Its number in `docs/RULES.md` and `include/gudrenoss.h`, from 1 to 12.
     #[must_use]
     pub fn number(self) -> u64 {
         match self {
@@ -71,6 +81,8 @@ impl Refusal {
             Refusal::Shape => 8,
             Refusal::TooBig => 9,
             Refusal::NotAPermutation => 10,
+            Refusal::BadImage { .. } => 11,
+            Refusal::NoSuchTable => 12,
         }
     }
 
@@ -78,7 +90,7 @@ impl Refusal {
     #[must_use]
     pub fn at(self) -> u64 {
         match self {
-            Refusal::NotMonotone { at } => at,
+            Refusal::NotMonotone { at } | Refusal::BadImage { at } => at,
             _ => 0,
         }
     }
@@ -107,6 +119,8 @@ impl fmt::Display for Refusal {
             Refusal::Shape => "lengths or radices differ, or an output is too short",
             Refusal::TooBig => "the number is 2^64 or more",
             Refusal::NotAPermutation => "the entries are no permutation",
+            Refusal::BadImage { at } => return write!(f, "refused {} at {at}: the image is bad", self.number()),
+            Refusal::NoSuchTable => "the image has no such table",
         };
         write!(f, "refused {}: {reason}", self.number())
     }
@@ -123,20 +137,21 @@ mod tests {
 
     #[test]
     fn parts_lead_back() {
-        for number in 1..=10 {
+        for number in 1..=12 {
+            let tells = number == 2 || number == 11;
             for at in [0, 1, 63, u64::MAX] {
                 let Some(refusal) = Refusal::from_parts(number, at) else {
-                    assert!(number != 2 && at != 0);
+                    assert!(!tells && at != 0);
                     continue;
                 };
-                assert!(number == 2 || at == 0);
+                assert!(tells || at == 0);
                 assert_eq!((refusal.number(), refusal.at()), (number, at));
                 assert_eq!(Refusal::judge(Status { number, at }), Err(refusal));
-                let place = if number == 2 { format!(" at {at}") } else { "".to_string() };
+                let place = if tells { format!(" at {at}") } else { "".to_string() };
                 assert!(refusal.to_string().starts_with(&format!("refused {number}{place}: ")));
             }
         }
-        assert_eq!((Refusal::from_parts(0, 0), Refusal::from_parts(11, 0)), (None, None));
+        assert_eq!((Refusal::from_parts(0, 0), Refusal::from_parts(13, 0)), (None, None));
         assert_eq!(Refusal::judge(Status { number: 0, at: 0 }), Ok(()));
     }
 }
