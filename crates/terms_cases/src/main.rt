@@ -3,7 +3,7 @@ fn answer_each(input: &[u8]) {
     let mut at = 0;
     while at < input.len() {
         let end = text::find(input, at, b'\n');
-        terms_line::answer(&input[at..end]);
+        terms_answer::answer(&input[at..end]);
         at = end;
         if at < input.len() {
             at += 1;

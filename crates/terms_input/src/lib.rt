@@ -29,5 +29,5 @@ fn read_line(buffer: &mut [u8]) -> usize
 pub fn run() {
     let mut buffer = [0u8; 64];
     let n = read_line(&mut buffer);
-    terms_line::answer(&buffer[0..n]);
+    terms_answer::answer(&buffer[0..n]);
 }

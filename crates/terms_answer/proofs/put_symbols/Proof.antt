@@ -1,10 +1,10 @@
--- `terms_line::put_symbols` is safe and ends. The measure is what is left of the word. Assumes nothing.
+-- `terms_answer::put_symbols` is safe and ends. The measure is what is left of the word. Assumes nothing.
 use mathlib.Core.Path.{_≡_}
 use Prim.Native.Nat.{_-_, _≤_}
 use lib.ListN.{length}
 use borrow.Author.Needs.{needs}
-use Rattle.terms_line.proofs.put_symbols.Statement.{statement}
-use Rattle.terms_line.proofs.put_symbols.Tie as tie
+use Rattle.terms_answer.proofs.put_symbols.Statement.{statement}
+use Rattle.terms_answer.proofs.put_symbols.Tie as tie
 
 abbrev Inv-loop : tie.InvT-loop
 Inv-loop out₀ at word k to₀ i₀ out to i = (i ≤ length word) × (length out ≡ length out₀)

@@ -1,10 +1,10 @@
--- `terms_line::put_words` is safe and ends. The measure is how many words are left. Assumes nothing.
+-- `terms_answer::put_words` is safe and ends. The measure is how many words are left. Assumes nothing.
 use mathlib.Core.Path.{_≡_}
 use Prim.Native.Nat.{_-_, _≤_}
 use lib.ListN.{length}
 use borrow.Author.Needs.{needs}
-use Rattle.terms_line.proofs.put_words.Statement.{statement}
-use Rattle.terms_line.proofs.put_words.Tie as tie
+use Rattle.terms_answer.proofs.put_words.Statement.{statement}
+use Rattle.terms_answer.proofs.put_words.Tie as tie
 
 abbrev Inv-loop : tie.InvT-loop
 Inv-loop out₀ at count to₀ w₀ r₀ out to w r = (r ≤ count) × (length out ≡ length out₀)
