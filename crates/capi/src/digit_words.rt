@@ -3,7 +3,8 @@
 ghost use mathlib.Core.Path.{_≡_};
 ghost use lib.ListN.{length};
 ghost use Rattle.answers.specs.Says.{after, placesOf};
-ghost use Rattle.digits.specs.Rules.{digitCountSays, symbolsSays, digitSymbolSays, multiplicitySays, digitStabilizerSays, fromSymbolsSays, concatSays, digitDeleteSays, wordedSays, digitDeletedSays};
+ghost use Rattle.digits.specs.Rules.{digitCountSays, symbolsSays, digitSymbolSays, fromSymbolsSays, wordedSays, digitDeletedSays};
+ghost use Rattle.digits_algebra.specs.Rules.{multiplicitySays, digitStabilizerSays, concatSays, digitDeleteSays};
 ghost use Rattle.boundary.specs.Boundary.{status, stored, itself};
 ghost use Rattle.capi.specs.DigitWords.{wordAt, degreeOfWord, rankOfWord, symbolOfTaken, rankOfTaken};
 use boundary::Status;
@@ -126,7 +127,7 @@ pub extern "C" fn gudrenoss_digits_multiplicity(
         degree,
         rank,
     };
-    boundary::number(digits::multiplicity(word, s), multiplicity)
+    boundary::number(digits_algebra::multiplicity(word, s), multiplicity)
 }
 
 // The product of the factorials of the multiplicities: the word's checks; 9 if the product is 2^64 or more.
@@ -145,7 +146,7 @@ pub extern "C" fn gudrenoss_digits_stabilizer(
         degree,
         rank,
     };
-    boundary::number(digits::stabilizer(word), stabilizer)
+    boundary::number(digits_algebra::stabilizer(word), stabilizer)
 }
 
 // The digit word with the digits of the left one lowest, as its degree and its rank: the checks of the left word; those of the right one; 8 if the radices differ; 1 if
@@ -175,7 +176,7 @@ pub extern "C" fn gudrenoss_digits_concat(
         degree: right_degree,
         rank: right_rank,
     };
-    worded(digits::concat(left, right), degree, rank)
+    worded(digits_algebra::concat(left, right), degree, rank)
 }
 
 // The symbol at position p, and the rank of the word of one degree fewer without it, the gap closed: the word's checks; 7 if p is not below the degree.
@@ -197,5 +198,5 @@ pub extern "C" fn gudrenoss_digits_delete(
         degree,
         rank,
     };
-    deleted(digits::delete(word, p), symbol, rest)
+    deleted(digits_algebra::delete(word, p), symbol, rest)
 }

@@ -1,8 +1,5 @@
 pub mod Powers
 pub mod Positions
 pub mod Rules
-pub mod Counting
-pub mod Buffer
-pub mod Joining
 pub mod Promises
 pub mod Examples

@@ -7,27 +7,17 @@
 --   given x s    these checks, and then s
 --   symbolsSays x room    these; 8; the symbols
 --   digitSymbolSays x p    these; 7; the symbol at position p
---   multiplicitySays x s    these; how many positions carry s
---   digitStabilizerSays x    these; 9; the stabilizer of the symbols
 --   fromSymbolsSays n w    1 if there are more than 64; 7 if a symbol is not below the radix; 9; the digit word
---   digitJoinSays x y    8 if the radices differ; 1; 9; the word of the symbols of x, and then those of y
---   concatSays x y    the checks of x; those of y; and then these
 --   TakenOut    a symbol and what is left without it
---   takeSays x p    7; the symbol at position p, and the word without that position
---   digitDeleteSays x p    the checks of x; and then these
 --   wordedSays, digitDeletedSays    what each case of an answer means
-use mathlib.Core.Bool.{not}
-use mathlib.Core.List.{List, _++_}
-use Prim.Native.Nat.{ℕ, _+_, _^_}
-use lib.Dec.{leb, ltb, eqb}
+use mathlib.Core.List.{List}
+use Prim.Native.Nat.{ℕ, _^_}
+use lib.Dec.{leb, ltb}
 use lib.ListN.{length, getD, replicate}
-use Rattle.words.specs.Inversions.{multiplicity}
-use Rattle.words.specs.Without.{without}
 use Rattle.answers.specs.Says.{Says, refusesWith, gives, refusedIf, andThen, numberOf as refusalOf, carriedBy}
 use Rattle.bits.specs.Member.{reaches}
 use Rattle.positional.specs.Positional.{positionalValue, digitsOf}
 use Rattle.cartesian.specs.Checks.{numberSays}
-use Rattle.deletion.specs.Multiplicities.{stabilizerOf}
 use Rattle.digits.specs.declared.DigitWord.{DigitWord}
 use Rattle.digits.specs.declared.Worded.{Worded}
 use Rattle.digits.specs.declared.Worded.the-variants as worded
@@ -59,41 +49,15 @@ symbolsSays x room = given x (refusedIf (ltb room (x .degree)) 8 (gives (symbols
 abbrev pub digitSymbolSays : DigitWord → ℕ → Says ℕ
 digitSymbolSays x p = given x (refusedIf (leb (x .degree) p) 7 (gives (getD (symbolsOf x) p 0)))
 
-abbrev pub multiplicitySays : DigitWord → ℕ → Says ℕ
-multiplicitySays x s = given x (gives (multiplicity s (symbolsOf x)))
-
-abbrev pub digitStabilizerSays : DigitWord → Says ℕ
-digitStabilizerSays x = given x (numberSays (stabilizerOf (symbolsOf x)))
-
 abbrev pub fromSymbolsSays : ℕ → List ℕ → Says DigitWord
 fromSymbolsSays n w =
     refusedIf (ltb 64 (length w)) 1 (refusedIf (reaches n w) 7 (refusedIf (leb (2 ^ 64) (n ^ length w)) 9 (gives (digitWordOf n w))))
 
 -- ---- concatenation and deletion
 
--- two words that have passed their checks
-abbrev pub digitJoinSays : DigitWord → DigitWord → Says DigitWord
-digitJoinSays x y =
-    refusedIf (not (eqb (x .radix) (y .radix))) 8
-    (refusedIf (ltb 64 (x .degree + y .degree)) 1
-    (refusedIf (leb (2 ^ 64) (x .radix ^ (x .degree + y .degree))) 9
-    (gives (digitWordOf (x .radix) (symbolsOf x ++ symbolsOf y)))))
-
-abbrev pub concatSays : DigitWord → DigitWord → Says DigitWord
-concatSays x y = given x (given y (digitJoinSays x y))
-
 pub record TakenOut : Type 0 where
   pub symbol : ℕ
   pub left : DigitWord
-
--- a word that has passed its checks
-abbrev pub takeSays : DigitWord → ℕ → Says TakenOut
-takeSays x p =
-    refusedIf (leb (x .degree) p) 7
-    (gives (record { symbol = getD (symbolsOf x) p 0; left = digitWordOf (x .radix) (without p (symbolsOf x)) }))
-
-abbrev pub digitDeleteSays : DigitWord → ℕ → Says TakenOut
-digitDeleteSays x p = given x (takeSays x p)
 
 -- ---- what each case of an answer means
 

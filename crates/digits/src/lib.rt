@@ -1,15 +1,13 @@
 // Digit words (document 01, "Shapes, digit words, exponents"): a radix, a degree of at most 64 and a rank, which is the word as a positional number, position 0
-// least significant.
+// least significant. Their count, and their symbols. Multiplicities, concatenation and deletion are `digits_algebra`'s.
 ghost use mathlib.Core.Path.{_≡_};
 ghost use Prim.Native.Nat.{_^_, _<_, _≤_};
-ghost use lib.ListN.{length, take, replicate};
+ghost use lib.ListN.{length, replicate};
 ghost use Rattle.words.specs.Word.{Below};
-ghost use Rattle.words.specs.Inversions.{multiplicity as multiplicityOf};
 ghost use Rattle.answers.specs.Says.{answerSays, placesOf, after, gives};
 ghost use Rattle.positional.specs.Positional.{positionalValue, digitsOf};
 ghost use Rattle.cartesian.specs.Checks.{numberSays};
-ghost use Rattle.deletion.specs.Multiplicities.{stabilizerOf};
-ghost use Rattle.digits.specs.Rules.{digitCountSays, checkSays, symbolsSays, digitSymbolSays, multiplicitySays, digitStabilizerSays, fromSymbolsSays, concatSays, digitDeleteSays, wordedSays, digitDeletedSays};
+ghost use Rattle.digits.specs.Rules.{digitCountSays, checkSays, symbolsSays, digitSymbolSays, fromSymbolsSays, wordedSays};
 use answers::Answer;
 use answers::Refusal;
 
@@ -33,7 +31,7 @@ pub enum Deleted {
 }
 
 // The radix to a power: 9 if that is 2^64 or more. 0^0 is 1.
-fn power(radix: u64, degree: u64) -> Answer
+pub fn power(radix: u64, degree: u64) -> Answer
     ensures { λ r. ⌜ answerSays r ≡ numberSays (radix ^ degree) ⌝ }
 {
     let mut product: u64 = 1;
@@ -59,7 +57,7 @@ pub fn count(radix: u64, degree: u64) -> Answer
 }
 
 // The checks of a given word: those of its count; 3 if its rank is not below that. The answer is the count.
-fn check(x: DigitWord) -> Answer
+pub fn check(x: DigitWord) -> Answer
     ensures { λ r. ⌜ answerSays r ≡ checkSays x ⌝ }
 {
     let radix = x.radix;
@@ -129,65 +127,6 @@ pub fn symbol(x: DigitWord, p: u64) -> Answer
     Answer::Is(rank / stride % radix)
 }
 
-// How many of the first places of the slice hold s.
-fn occurrences(word: &[u64], upto: u64, s: u64) -> u64
-    requires { ⌜ upto ≤ length (now word) ⌝ }
-    ensures { λ r. ⌜ r ≡ multiplicityOf s (take upto (now (word .entry))) ⌝ }
-{
-    let mut n: u64 = 0;
-    let mut i: u64 = 0;
-    while i < upto {
-        if word[i as usize] == s {
-            n += 1;
-        }
-        i += 1;
-    }
-    n
-}
-
-// How many positions of a word carry the symbol s: 1, 9, 3. None carries a symbol that is not below the radix.
-pub fn multiplicity(x: DigitWord, s: u64) -> Answer
-    ensures { λ r. ⌜ answerSays r ≡ multiplicitySays x s ⌝ }
-{
-    let mut word = [0u64; 64];
-    let a = symbols(x, &mut word);
-    let Answer::Is(k) = a else {
-        return a;
-    };
-    Answer::Is(occurrences(&word, k, s))
-}
-
-// The product of the factorials of the multiplicities of the first symbols of the slice: 9 if it is 2^64 or more. Each position multiplies it by how often its
-// symbol has occurred by then.
-fn stabilizer_of(word: &[u64], upto: u64) -> Answer
-    requires { ⌜ upto ≤ length (now word) ⌝ }
-    ensures { λ r. ⌜ answerSays r ≡ numberSays (stabilizerOf (take upto (now (word .entry)))) ⌝ }
-{
-    let mut product: u64 = 1;
-    let mut i: u64 = 0;
-    while i < upto {
-        let times = occurrences(word, i + 1, word[i as usize]);
-        if cartesian::exceeds(product, times) {
-            return Answer::Refused(Refusal::TooBig);
-        }
-        product *= times;
-        i += 1;
-    }
-    Answer::Is(product)
-}
-
-// The stabilizer of a word: 1, 9, 3; 9 if the product of the factorials of its multiplicities is 2^64 or more.
-pub fn stabilizer(x: DigitWord) -> Answer
-    ensures { λ r. ⌜ answerSays r ≡ digitStabilizerSays x ⌝ }
-{
-    let mut word = [0u64; 64];
-    let a = symbols(x, &mut word);
-    let Answer::Is(k) = a else {
-        return a;
-    };
-    stabilizer_of(&word, k)
-}
-
 // The symbols as a positional number, from the highest position down.
 fn number(radix: u64, symbols: &[u64]) -> u64
     requires { ⌜ Below radix (now symbols) × (radix ^ length (now symbols) < 2 ^ 64) ⌝ }
@@ -222,75 +161,4 @@ pub fn from_symbols(radix: u64, symbols: &[u64]) -> Worded
         degree,
         rank,
     })
-}
-
-// The word of the symbols of x, which stand lowest, followed by those of y: the checks of x; those of y; 8 if the radices differ; 1; 9.
-pub fn concat(x: DigitWord, y: DigitWord) -> Worded
-    ensures { λ r. ⌜ wordedSays r ≡ concatSays x y ⌝ }
-{
-    let radix = x.radix;
-    let low = x.rank;
-    let high = y.rank;
-    let a = check(x);
-    let Answer::Is(stride) = a else {
-        let Answer::Refused(e) = a else {
-            return Worded::Refused(Refusal::TooWide);
-        };
-        return Worded::Refused(e);
-    };
-    let b = check(y);
-    let Answer::Is(_) = b else {
-        let Answer::Refused(e) = b else {
-            return Worded::Refused(Refusal::TooWide);
-        };
-        return Worded::Refused(e);
-    };
-    if radix != y.radix {
-        return Worded::Refused(Refusal::Shape);
-    }
-    let degree = x.degree + y.degree;
-    if 64 < degree {
-        return Worded::Refused(Refusal::TooWide);
-    }
-    let Answer::Is(_) = power(radix, degree) else {
-        return Worded::Refused(Refusal::TooBig);
-    };
-    let rank = low + high * stride;
-    Worded::Is(DigitWord {
-        radix,
-        degree,
-        rank,
-    })
-}
-
-// The symbol at a position, and the word without it: 1, 9, 3; 7 if there is no such position. The positions above slide down and close the gap.
-pub fn delete(x: DigitWord, p: u64) -> Deleted
-    ensures { λ r. ⌜ digitDeletedSays r ≡ digitDeleteSays x p ⌝ }
-{
-    let radix = x.radix;
-    let rank = x.rank;
-    let a = check(x);
-    let Answer::Is(_) = a else {
-        let Answer::Refused(e) = a else {
-            return Deleted::Refused(Refusal::TooWide);
-        };
-        return Deleted::Refused(e);
-    };
-    if x.degree <= p {
-        return Deleted::Refused(Refusal::Outside);
-    }
-    let Answer::Is(stride) = power(radix, p) else {
-        return Deleted::Refused(Refusal::TooBig);
-    };
-    let symbol = rank / stride % radix;
-    let degree = x.degree - 1;
-    let rank = rank % stride + rank / stride / radix * stride;
-    Deleted::At(
-        symbol,
-        DigitWord {
-            radix,
-            degree,
-            rank,
-        },
-    )
 }

@@ -29,7 +29,8 @@ use Rattle.permutation_order.specs.Rules.{arrangementRankSays}
 use Rattle.cartesian.specs.Rules.{shapeCountSays, linearizeSays}
 use Rattle.cartesian_strides.specs.Rules.{stridesSays, cornerSays}
 use Rattle.digits.specs.declared.DigitWord.{DigitWord}
-use Rattle.digits.specs.Rules.{TakenOut, fromSymbolsSays, digitDeleteSays}
+use Rattle.digits.specs.Rules.{TakenOut, fromSymbolsSays}
+use Rattle.digits_algebra.specs.Rules.{digitDeleteSays}
 
 -- ---- cases
 

@@ -25,7 +25,8 @@ use Rattle.permutation_group.specs.Rules.{inverseSays, composeSays, signSays}
 use Rattle.permutation_order.specs.Rules.{arrangementRankSays, arrangementUnrankSays, arrangementSuccessorSays}
 use Rattle.cartesian.specs.Rules.{shapeCountSays, linearizeSays, delinearizeSays}
 use Rattle.cartesian_strides.specs.Rules.{stridesSays, cornerSays}
-use Rattle.digits.specs.Rules.{digitCountSays, fromSymbolsSays, symbolsSays, digitSymbolSays, multiplicitySays, digitStabilizerSays, concatSays, digitDeleteSays}
+use Rattle.digits.specs.Rules.{digitCountSays, fromSymbolsSays, symbolsSays, digitSymbolSays}
+use Rattle.digits_algebra.specs.Rules.{multiplicitySays, digitStabilizerSays, concatSays, digitDeleteSays}
 use Rattle.composition.specs.Rules.{wordSays, fromWordSays, addSays}
 use Rattle.composition_rank.specs.Rules.{fromRankSays}
 use Rattle.promises.specs.Checked.{Case, _is_, digits}

@@ -22,13 +22,13 @@ pub(crate) fn of_word(verb: &[u8], kinds: &[u8], values: &[u64], lent: &mut [u64
         return Reply::Number(digits::symbol(x, p));
     }
     if requests::asks(verb, kinds, b"digitmultiplicity nnnn") {
-        return Reply::Number(digits::multiplicity(x, p));
+        return Reply::Number(digits_algebra::multiplicity(x, p));
     }
     if requests::asks(verb, kinds, b"digitstabilizer nnn") {
-        return Reply::Number(digits::stabilizer(x));
+        return Reply::Number(digits_algebra::stabilizer(x));
     }
     if requests::asks(verb, kinds, b"digitdelete nnnn") {
-        return Reply::DigitDeleted(digits::delete(x, p));
+        return Reply::DigitDeleted(digits_algebra::delete(x, p));
     }
     Reply::Bad
 }
@@ -43,7 +43,10 @@ pub(crate) fn of_words(verb: &[u8], kinds: &[u8], values: &[u64]) -> Reply {
         return Reply::Number(digits::count(radix, requests::number(values, 1)));
     }
     if requests::asks(verb, kinds, b"digitconcat nnnnnn") {
-        return Reply::DigitWord(digits::concat(word(values), word(requests::list(values, 3))));
+        return Reply::DigitWord(digits_algebra::concat(
+            word(values),
+            word(requests::list(values, 3)),
+        ));
     }
     Reply::Bad
 }

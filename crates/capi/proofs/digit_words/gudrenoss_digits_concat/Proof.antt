@@ -4,7 +4,7 @@ use Rattle.capi.proofs.digit_words.gudrenoss_digits_concat.Tie as tie
 use Rattle.capi.proofs.digit_words.gudrenoss_digits_concat.Reads as reads
 use Rattle.capi.proofs.digit_words.gudrenoss_digits_concat.Lts as lts
 use Rattle.capi.proofs.digit_words.worded.Reads as worded-reads
-use Rattle.digits.proofs.concat.Reads as concat-reads
+use Rattle.digits_algebra.proofs.concat.Reads as concat-reads
 
 -- src/digit_words.rt:178:12
 concat-requires : tie.Need-concat-requires

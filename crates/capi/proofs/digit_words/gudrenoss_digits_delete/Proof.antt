@@ -4,7 +4,7 @@ use Rattle.capi.proofs.digit_words.gudrenoss_digits_delete.Tie as tie
 use Rattle.capi.proofs.digit_words.gudrenoss_digits_delete.Reads as reads
 use Rattle.capi.proofs.digit_words.gudrenoss_digits_delete.Lts as lts
 use Rattle.capi.proofs.digit_words.deleted.Reads as deleted-reads
-use Rattle.digits.proofs.delete.Reads as delete-reads
+use Rattle.digits_algebra.proofs.delete.Reads as delete-reads
 
 -- src/digit_words.rt:200:13
 delete-requires : tie.Need-delete-requires

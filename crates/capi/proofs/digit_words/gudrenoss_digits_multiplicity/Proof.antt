@@ -4,7 +4,7 @@ use Rattle.capi.proofs.digit_words.gudrenoss_digits_multiplicity.Tie as
 use Rattle.capi.proofs.digit_words.gudrenoss_digits_multiplicity.Reads as reads
 use Rattle.capi.proofs.digit_words.gudrenoss_digits_multiplicity.Lts as lts
 use Rattle.boundary.proofs.number.Reads as number-reads
-use Rattle.digits.proofs.multiplicity.Reads as multiplicity-reads
+use Rattle.digits_algebra.proofs.multiplicity.Reads as multiplicity-reads
 
 -- src/digit_words.rt:129:22
 multiplicity-requires : tie.Need-multiplicity-requires

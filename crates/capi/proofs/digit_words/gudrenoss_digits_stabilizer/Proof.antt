@@ -4,7 +4,7 @@ use Rattle.capi.proofs.digit_words.gudrenoss_digits_stabilizer.Tie as t
 use Rattle.capi.proofs.digit_words.gudrenoss_digits_stabilizer.Reads as reads
 use Rattle.capi.proofs.digit_words.gudrenoss_digits_stabilizer.Lts as lts
 use Rattle.boundary.proofs.number.Reads as number-reads
-use Rattle.digits.proofs.stabilizer.Reads as stabilizer-reads
+use Rattle.digits_algebra.proofs.stabilizer.Reads as stabilizer-reads
 
 -- src/digit_words.rt:148:22
 stabilizer-requires : tie.Need-stabilizer-requires

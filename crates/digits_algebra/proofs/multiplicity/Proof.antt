@@ -1,13 +1,13 @@
--- `digits::multiplicity` meets its contract: the symbols are written into a buffer and counted. Assumes nothing.
+-- `digits_algebra::multiplicity` meets its contract: the symbols are written into a buffer and counted. Assumes nothing.
 use mathlib.Core.Path.{sym, ap, _∙_}
 use Rattle.words.specs.Inversions.{multiplicity as multiplicityOf}
 use Rattle.answers.specs.Says.{gives, answerSays}
 use Rattle.digits.specs.Rules.{symbolsOf}
 use Rattle.digits.proofs.Rules.{given-passed, given-refused}
-use Rattle.digits.proofs.Buffer.{unspelt, spelt}
+use Rattle.digits_algebra.proofs.Buffer.{unspelt, spelt}
 use borrow.Author.Needs.{needs}
-use Rattle.digits.proofs.multiplicity.Statement.{statement}
-use Rattle.digits.proofs.multiplicity.Tie as tie
+use Rattle.digits_algebra.proofs.multiplicity.Statement.{statement}
+use Rattle.digits_algebra.proofs.multiplicity.Tie as tie
 
 slice-aggregate-symbols : tie.Need-slice-aggregate-symbols
 slice-aggregate-symbols c = search needs

@@ -17,10 +17,11 @@ use Rattle.positional.specs.Positional.{product, stride, Digits, positionalValu
 use Rattle.positional.proofs.Digits.{digits-good, number-of-digits, number-below}
 use Rattle.positional.proofs.Parts.{digits-append, number-append, number-without}
 use Rattle.positional.proofs.Equal.{product-equal, stride-equal, without-equal}
 use Rattle.digits.specs.declared.DigitWord.{DigitWord}
-use Rattle.digits.specs.Rules.{symbolsOf, digitWordOf, checkSays, given, digitJoinSays, concatSays, takeSays, digitDeleteSays}
+use Rattle.digits.specs.Rules.{symbolsOf, digitWordOf, checkSays, given}
+use Rattle.digits_algebra.specs.Rules.{digitJoinSays, concatSays, takeSays, digitDeleteSays}
 use Rattle.digits.proofs.Rules.{given-passed}
 use Rattle.digits.proofs.Positions.{symbols-long, symbol-at}
 
 pub concat-passed : (x y : DigitWord) (c d : ℕ) → gives c ≡ checkSays x → gives d ≡ checkSays y → concatSays x y ≡ digitJoinSays x y
 concat-passed x y c d e f = given-passed x c (given y (digitJoinSays x y)) e ∙ given-passed y d (digitJoinSays x y) f

@@ -1,14 +1,14 @@
--- `digits::delete` meets its contract: a refusal of the checks is passed on, and the gap is closed by the laws of `Joining`. Assumes nothing.
+-- `digits_algebra::delete` meets its contract: a refusal of the checks is passed on, and the gap is closed by the laws of `Joining`. Assumes nothing.
 use mathlib.Core.Path.{sym, ap, _∙_}
 use native.Mathlib.Omega.{arith}
 use borrow.Author.Tests.{le-leb}
 use Rattle.answers.specs.Says.{answerSays}
-use Rattle.digits.specs.Rules.{takeSays}
+use Rattle.digits_algebra.specs.Rules.{takeSays}
 use Rattle.digits.proofs.Rules.{known, given-passed, given-refused, radix-some, stride-is, stride-some, stride-refused}
-use Rattle.digits.proofs.Joining.{taken-small, taken-given}
+use Rattle.digits_algebra.proofs.Joining.{taken-small, taken-given}
 use borrow.Author.Needs.{needs}
-use Rattle.digits.proofs.delete.Statement.{statement}
-use Rattle.digits.proofs.delete.Tie as tie
+use Rattle.digits_algebra.proofs.delete.Statement.{statement}
+use Rattle.digits_algebra.proofs.delete.Tie as tie
 
 check-requires : tie.Need-check-requires
 check-requires c κs = search needs

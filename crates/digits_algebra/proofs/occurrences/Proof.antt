@@ -1,13 +1,13 @@
--- `digits::occurrences` meets its contract. The invariant: how often the symbol has occurred. Assumes nothing.
+-- `digits_algebra::occurrences` meets its contract. The invariant: how often the symbol has occurred. Assumes nothing.
 use mathlib.Core.Path.{_≡_, refl, ap, _∙_}
 use mathlib.Core.Logic.{⊎-elim, ⊎-map}
 use Prim.Native.Nat.{ℕ, _≤_, _-_}
 use native.Mathlib.Omega.{arith}
 use lib.ListN.{take}
 use Rattle.words.specs.Inversions.{multiplicity}
-use Rattle.digits.proofs.Counting.{counted-turn}
-use Rattle.digits.proofs.occurrences.Statement.{statement}
-use Rattle.digits.proofs.occurrences.Tie as tie
+use Rattle.digits_algebra.proofs.Counting.{counted-turn}
+use Rattle.digits_algebra.proofs.occurrences.Statement.{statement}
+use Rattle.digits_algebra.proofs.occurrences.Tie as tie
 
 abbrev Inv-loop : tie.InvT-loop
 Inv-loop word upto s n₀ i₀ n i = (i ≤ upto) × (n ≤ i) × (n ≡ multiplicity s (take i word))

@@ -1,16 +1,17 @@
--- `digits::concat` meets its contract: refusals of the checks are passed on, and the ranks are joined by the laws of `Joining`. Assumes nothing.
+-- `digits_algebra::concat` meets its contract: refusals of the checks are passed on, and the ranks are joined by the laws of `Joining`. Assumes nothing.
 use mathlib.Core.Path.{sym, ap, _∙_}
 use Prim.Native.Nat.{_+_, _^_}
 use native.Mathlib.Omega.{arith}
 use borrow.Author.Tests.{lt-ltb, le-ltb, eq-eqb, ne-eqb}
 use Rattle.answers.specs.Says.{answerSays}
-use Rattle.digits.specs.Rules.{given, digitJoinSays}
+use Rattle.digits.specs.Rules.{given}
+use Rattle.digits_algebra.specs.Rules.{digitJoinSays}
 use Rattle.cartesian.proofs.Fits.{fits-given, fits-refused}
 use Rattle.digits.proofs.Rules.{known, given-passed, given-refused}
-use Rattle.digits.proofs.Joining.{concat-passed, joint-rank, joined-given}
+use Rattle.digits_algebra.proofs.Joining.{concat-passed, joint-rank, joined-given}
 use borrow.Author.Needs.{needs}
-use Rattle.digits.proofs.concat.Statement.{statement}
-use Rattle.digits.proofs.concat.Tie as tie
+use Rattle.digits_algebra.proofs.concat.Statement.{statement}
+use Rattle.digits_algebra.proofs.concat.Tie as tie
 
 check-requires : tie.Need-check-requires
 check-requires c κs = search needs

@@ -1,14 +1,14 @@
--- `digits::stabilizer` meets its contract: the symbols are written into a buffer and multiplied up. Assumes nothing.
+-- `digits_algebra::stabilizer` meets its contract: the symbols are written into a buffer and multiplied up. Assumes nothing.
 use mathlib.Core.Path.{sym, ap, _∙_}
 use Rattle.answers.specs.Says.{answerSays}
 use Rattle.cartesian.specs.Checks.{numberSays}
 use Rattle.deletion.specs.Multiplicities.{stabilizerOf}
 use Rattle.digits.specs.Rules.{symbolsOf}
 use Rattle.digits.proofs.Rules.{given-passed, given-refused}
-use Rattle.digits.proofs.Buffer.{unspelt, spelt}
+use Rattle.digits_algebra.proofs.Buffer.{unspelt, spelt}
 use borrow.Author.Needs.{needs}
-use Rattle.digits.proofs.stabilizer.Statement.{statement}
-use Rattle.digits.proofs.stabilizer.Tie as tie
+use Rattle.digits_algebra.proofs.stabilizer.Statement.{statement}
+use Rattle.digits_algebra.proofs.stabilizer.Tie as tie
 
 slice-aggregate-symbols : tie.Need-slice-aggregate-symbols
 slice-aggregate-symbols c = search needs

@@ -1,12 +1,12 @@
--- `digits::stabilizer_of` meets its contract, by the laws of `Counting`. Assumes nothing.
+-- `digits_algebra::stabilizer_of` meets its contract, by the laws of `Counting`. Assumes nothing.
 use mathlib.Core.Path.{sym, _∙_}
 use Prim.Native.Nat.{_≤_, _-_, _*_, _^_}
 use native.Mathlib.Omega.{arith}
 use borrow.Author.Needs.{needs}
 use borrow.Author.Tests.{leb-true, leb-false, le-leb, lt-leb}
-use Rattle.digits.proofs.Counting.{Multiplied, multiplied-starts, multiplied-turn, multiplied-past, multiplied-ends}
-use Rattle.digits.proofs.stabilizer_of.Statement.{statement}
-use Rattle.digits.proofs.stabilizer_of.Tie as tie
+use Rattle.digits_algebra.proofs.Counting.{Multiplied, multiplied-starts, multiplied-turn, multiplied-past, multiplied-ends}
+use Rattle.digits_algebra.proofs.stabilizer_of.Statement.{statement}
+use Rattle.digits_algebra.proofs.stabilizer_of.Tie as tie
 
 abbrev Inv-loop : tie.InvT-loop
 Inv-loop word upto product₀ i₀ product i = (i ≤ upto) × Multiplied word upto product i

@@ -1,0 +1,5 @@
+pub mod Counting
+pub mod Buffer
+pub mod Joining
+pub mod Promises
+pub mod Examples
