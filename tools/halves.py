@@ -1,6 +1,6 @@
 #!/usr/bin/env python3
 """Writes crates/halves_low and crates/halves_high: the columns 2 to 16 and 17 to 32 of Pascal's triangle once more, in two halves each; and
-crates/descent: a link for each of the columns, which finds a number by halving.
+crates/descent: links for each of the columns, which find a number by halving.
 
 Run it at the repository's root: python3 tools/halves.py. Run again, it changes nothing; nor does `rt fmt` after it.
 """
@@ -17,6 +17,11 @@ def lower(k):
     return 32 - rows
 
 
+def whole(k):
+    """The crate that has column k in one piece."""
+    return "columns_low" if k <= 16 else "columns_high"
+
+
 def half(name, k, first, rows):
     arms = "".join(f"        {n} => {comb(n, k)},\n" for n in range(first, first + rows))
     return f"""
@@ -25,7 +30,7 @@ pub fn {name}_{k}(n: u64) -> u64
     ensures {{ λ r. ⌜ r ≡ entry n {k} ⌝ }}
 {{
     match n {{
-{arms}        _ => pascal::recurrence(n, {k}),
+{arms}        _ => {whole(k)}::column_{k}(n),
     }}
 }}
 """
@@ -49,17 +54,25 @@ halves("halves_low", 2, 16)
 halves("halves_high", 17, LAST)
 
 
-def halvings(b, n, k, name):
-    """The lines that halve the window of n rows, until one is left; j is its index."""
-    lines = []
-    while 1 < n:
-        n //= 2
-        lines += [f"let t = middle({b}, {n}, j, {k}, r);", f"let j = half({b}, {n}, j, t, {columns(k)}::{name}_{k}(t), {k}, r);"]
-    return lines
+# Where the rows are cut: once a number is below a cut, all that are sought after it are.
+CUTS = (64, 48, 32, 16, 8, 0)
+# Where the search may begin, by the alphabet.
+STARTS = (8, 16, 64)
 
 
 def columns(k):
     return "halves_low" if k <= 16 else "halves_high"
+
+
+def window(upto, cut, k):
+    """The rows in which a number below upto is sought, if it is not below the cut: those from the cut up, or, where column k holds 0 in all of the
+    rows below the cut, as few as have every number, a power of two."""
+    if comb(cut, k) != 0:
+        return cut, upto - cut
+    rows = 1
+    while rows < upto - k + 1:
+        rows *= 2
+    return upto - rows, rows
 
 
 def function(head, requires, ensures, lines):
@@ -73,60 +86,48 @@ def function(head, requires, ensures, lines):
 """
 
 
-def ending(lines):
-    """The last `let j` is what the function gives."""
-    return lines[:-1] + [lines[-1].removeprefix("let j = ").removesuffix(";")]
-
-
-def rows_above(k):
-    lines = [f"let j = above({k}, {comb(32, k)}, s, r, a);"] + halvings(32, 32, k, "upper")
-    return function(f"fn above_{k}(s: u64, r: u64, a: u64)", f"Sought 64 {k} s r a × ({comb(32, k)} ≤ r)", f"λ j. ⌜ Among 32 {k} r j 1 ⌝", ending(lines))
-
-
-def rows_below(k):
-    b = lower(k)
-    sought = f"Sought 64 {k} s r a × (r < {comb(32, k)})"
-    start = [f"let j = below({b}, {32 - b}, {k}, 0, {comb(32, k)}, r);"]
-    text, n = "", 32 - b
-    for narrow in (16, 8):
-        if b == 0 and k <= narrow:
-            lines = [f"if s <= {narrow} {{", f"    return narrow({narrow}, {k}, s, r, a);", "}"] + start + halvings(0, n, k, "lower")[: 2 if n == 2 * narrow else 4]
-            text += function(f"fn within_{narrow}_{k}(s: u64, r: u64, a: u64)", sought, f"λ j. ⌜ Among 0 {k} r j {narrow} ⌝", ending(lines))
-            start, n = [f"let j = within_{narrow}_{k}(s, r, a);"], narrow
-    lines = start + halvings(b, n, k, "lower")
-    return text + function(f"fn below_{k}(s: u64, r: u64, a: u64)", sought, f"λ j. ⌜ Among {b} {k} r j 1 ⌝", ending(lines))
-
-
-def link(k):
-    b = lower(k)
-    onward = f"from_{k - 1}" if 2 < k else "last"
-    lines = [
-        f"if {comb(32, k)} <= r {{",
-        f"    let j = above_{k}(s, r, a);",
-        "    let t = 32 + j;",
-        f"    let c = {columns(k)}::upper_{k}(t);",
-        f"    let x = with(32, j, t, c, {k}, s, r, a);",
-        f"    return {onward}(t, r - c, x);",
-        "}",
-        f"let j = below_{k}(s, r, a);",
+def link(upto, cut, k):
+    """The highest of k numbers below upto, and then the others."""
+    lines = []
+    if comb(cut, k) != 0:
+        lines = [f"if r < {comb(cut, k)} {{", f"    return below_{cut}_{k}(r, below({cut}, {comb(cut, k)}, {k}, {upto}, r, a));", "}"]
+    b, n = window(upto, cut, k)
+    held = f"{columns(k)}::{'upper' if 32 <= b else 'lower'}_{k}"
+    lines += [f"let j = rows({b}, {n}, {comb(b, k)}, {k}, {upto}, r, a);"]
+    while 1 < n:
+        n //= 2
+        lines += [f"let t = middle({b}, {n}, j, {k}, r);", f"let j = half({b}, {n}, j, t, {held}(t), {k}, r);"]
+    onward = f"below_{upto}_{k - 1}(" if 2 < k else f"last({upto}, "
+    lines += [
         f"let t = {b} + j;",
-        f"let c = {columns(k)}::lower_{k}(t);",
-        f"let x = with({b}, j, t, c, {k}, s, r, a);",
-        f"{onward}(t, r - c, x)",
+        f"let c = {held}(t);",
+        f"let x = with({b}, j, t, c, {k}, {upto}, r, a);",
+        f"{onward}r - c, x)",
     ]
-    return function(f"pub fn from_{k}(s: u64, r: u64, a: u64)", f"Sought 64 {k} s r a", f"λ x. ⌜ x ≡ a + value {k} r ⌝", lines)
+    return function(f"fn below_{upto}_{k}(r: u64, a: u64)", f"Sought 64 {k} {upto} r a", f"λ x. ⌜ x ≡ a + value {k} r ⌝", lines)
 
 
-def leaf(k):
+def begins(k, upto):
+    call = f"below_{upto}_{k}(" if 1 < k else f"last({upto}, "
+    return f"ended({call}r, begun({upto}, {k}, k, s, r)), {k}, k, r)"
+
+
+def leaf(k, indent):
     if k == 0:
-        return "empty(k, r)"
-    return f"ended({f'from_{k}' if 1 < k else 'last'}(begun({k}, k, s, r), r, 0), {k}, k, r)"
+        return [indent + "empty(k, r)"]
+    if k == 1:
+        return [indent + begins(1, 64)]
+    lines = []
+    for upto in STARTS[:-1]:
+        if k <= upto:
+            lines += [indent + f"if s <= {upto} {{", indent + f"    return {begins(k, upto)};", indent + "}"]
+    return lines + [indent + begins(k, STARTS[-1])]
 
 
 def tree(first, last, indent):
-    """The link for k, which is one of first to last, by halving these."""
+    """The links for k, which is one of first to last, by halving these."""
     if first == last:
-        return [indent + leaf(first)]
+        return leaf(first, indent)
     half = (first + last + 1) // 2
     below = tree(first, half - 1, indent + "    ")
     below[-1] = indent + "    return " + below[-1].strip() + ";"
@@ -140,13 +141,13 @@ def entry():
 
 def descent():
     text = f"""// The sets of 2 to {LAST} numbers by their rank, each number found by halving its column (document 01, "Terms and their order"). Made by tools/halves.py.
-// Link k has k numbers of rank r to find, all below s; it finds the highest and hands what is left to the next. A comparison with row 32 says in which half
-// of the column that number is; numbers below 8 or 16 have fewer rows still. Then each comparison halves the rows, with no branch.
+// The rows are cut at 48, 32, 16 and 8. The link `below_s_k` has k numbers of rank r to find, all below the cut s, and a holds those that are found. One
+// comparison says whether they are below the next cut too, and then that cut's link takes over, for good. Otherwise the highest is one of the rows between
+// the two cuts, at most 16; each comparison halves these, with no branch, and what is left goes to the link for one number fewer.
 ghost use mathlib.Core.Path.{{_≡_}};
 ghost use Prim.Native.Nat.{{_+_, _<_, _≤_}};
 ghost use Rattle.pascal.specs.Row.{{entry}};
 ghost use Rattle.halving.specs.Search.{{value, Sought, Among}};
-use halving::above;
 use halving::begun;
 use halving::below;
 use halving::empty;
@@ -154,11 +155,12 @@ use halving::ended;
 use halving::half;
 use halving::last;
 use halving::middle;
-use halving::narrow;
+use halving::rows;
 use halving::with;
 """
-    for k in range(2, LAST + 1):
-        text += rows_above(k) + rows_below(k) + link(k)
+    for upto, cut in reversed(list(zip(CUTS, CUTS[1:]))):
+        for k in range(2, min(upto, LAST) + 1):
+            text += link(upto, cut, k)
     text += "\n// The set of k numbers below s that has the rank r." + entry()
     with open("crates/descent/src/lib.rt", "w", encoding="utf-8") as f:
         f.write(text)

@@ -1,11 +1,11 @@
 // The sets of 2 to 32 numbers by their rank, each number found by halving its column (document 01, "Terms and their order"). Made by tools/halves.py.
-// Link k has k numbers of rank r to find, all below s; it finds the highest and hands what is left to the next. A comparison with row 32 says in which half
-// of the column that number is; numbers below 8 or 16 have fewer rows still. Then each comparison halves the rows, with no branch.
+// The rows are cut at 48, 32, 16 and 8. The link `below_s_k` has k numbers of rank r to find, all below the cut s, and a holds those that are found. One
+// comparison says whether they are below the next cut too, and then that cut's link takes over, for good. Otherwise the highest is one of the rows between
+// the two cuts, at most 16; each comparison halves these, with no branch, and what is left goes to the link for one number fewer.
 ghost use mathlib.Core.Path.{_≡_};
 ghost use Prim.Native.Nat.{_+_, _<_, _≤_};
 ghost use Rattle.pascal.specs.Row.{entry};
 ghost use Rattle.halving.specs.Search.{value, Sought, Among};
-use halving::above;
 use halving::begun;
 use halving::below;
 use halving::empty;
@@ -13,1031 +13,711 @@ use halving::ended;
 use halving::half;
 use halving::last;
 use halving::middle;
-use halving::narrow;
+use halving::rows;
 use halving::with;
 
-fn above_2(s: u64, r: u64, a: u64) -> u64
-    requires { ⌜ Sought 64 2 s r a × (496 ≤ r) ⌝ }
-    ensures { λ j. ⌜ Among 32 2 r j 1 ⌝ }
+fn below_8_2(r: u64, a: u64) -> u64
+    requires { ⌜ Sought 64 2 8 r a ⌝ }
+    ensures { λ x. ⌜ x ≡ a + value 2 r ⌝ }
 {
-    let j = above(2, 496, s, r, a);
-    let t = middle(32, 16, j, 2, r);
-    let j = half(32, 16, j, t, halves_low::upper_2(t), 2, r);
-    let t = middle(32, 8, j, 2, r);
-    let j = half(32, 8, j, t, halves_low::upper_2(t), 2, r);
-    let t = middle(32, 4, j, 2, r);
-    let j = half(32, 4, j, t, halves_low::upper_2(t), 2, r);
-    let t = middle(32, 2, j, 2, r);
-    let j = half(32, 2, j, t, halves_low::upper_2(t), 2, r);
-    let t = middle(32, 1, j, 2, r);
-    half(32, 1, j, t, halves_low::upper_2(t), 2, r)
-}
-
-fn within_16_2(s: u64, r: u64, a: u64) -> u64
-    requires { ⌜ Sought 64 2 s r a × (r < 496) ⌝ }
-    ensures { λ j. ⌜ Among 0 2 r j 16 ⌝ }
-{
-    if s <= 16 {
-        return narrow(16, 2, s, r, a);
-    }
-    let j = below(0, 32, 2, 0, 496, r);
-    let t = middle(0, 16, j, 2, r);
-    half(0, 16, j, t, halves_low::lower_2(t), 2, r)
-}
-
-fn within_8_2(s: u64, r: u64, a: u64) -> u64
-    requires { ⌜ Sought 64 2 s r a × (r < 496) ⌝ }
-    ensures { λ j. ⌜ Among 0 2 r j 8 ⌝ }
-{
-    if s <= 8 {
-        return narrow(8, 2, s, r, a);
-    }
-    let j = within_16_2(s, r, a);
-    let t = middle(0, 8, j, 2, r);
-    half(0, 8, j, t, halves_low::lower_2(t), 2, r)
-}
-
-fn below_2(s: u64, r: u64, a: u64) -> u64
-    requires { ⌜ Sought 64 2 s r a × (r < 496) ⌝ }
-    ensures { λ j. ⌜ Among 0 2 r j 1 ⌝ }
-{
-    let j = within_8_2(s, r, a);
+    let j = rows(0, 8, 0, 2, 8, r, a);
     let t = middle(0, 4, j, 2, r);
     let j = half(0, 4, j, t, halves_low::lower_2(t), 2, r);
     let t = middle(0, 2, j, 2, r);
     let j = half(0, 2, j, t, halves_low::lower_2(t), 2, r);
     let t = middle(0, 1, j, 2, r);
-    half(0, 1, j, t, halves_low::lower_2(t), 2, r)
-}
-
-pub fn from_2(s: u64, r: u64, a: u64) -> u64
-    requires { ⌜ Sought 64 2 s r a ⌝ }
-    ensures { λ x. ⌜ x ≡ a + value 2 r ⌝ }
-{
-    if 496 <= r {
-        let j = above_2(s, r, a);
-        let t = 32 + j;
-        let c = halves_low::upper_2(t);
-        let x = with(32, j, t, c, 2, s, r, a);
-        return last(t, r - c, x);
-    }
-    let j = below_2(s, r, a);
+    let j = half(0, 1, j, t, halves_low::lower_2(t), 2, r);
     let t = 0 + j;
     let c = halves_low::lower_2(t);
-    let x = with(0, j, t, c, 2, s, r, a);
-    last(t, r - c, x)
+    let x = with(0, j, t, c, 2, 8, r, a);
+    last(8, r - c, x)
 }
 
-fn above_3(s: u64, r: u64, a: u64) -> u64
-    requires { ⌜ Sought 64 3 s r a × (4960 ≤ r) ⌝ }
-    ensures { λ j. ⌜ Among 32 3 r j 1 ⌝ }
+fn below_8_3(r: u64, a: u64) -> u64
+    requires { ⌜ Sought 64 3 8 r a ⌝ }
+    ensures { λ x. ⌜ x ≡ a + value 3 r ⌝ }
 {
-    let j = above(3, 4960, s, r, a);
-    let t = middle(32, 16, j, 3, r);
-    let j = half(32, 16, j, t, halves_low::upper_3(t), 3, r);
-    let t = middle(32, 8, j, 3, r);
-    let j = half(32, 8, j, t, halves_low::upper_3(t), 3, r);
-    let t = middle(32, 4, j, 3, r);
-    let j = half(32, 4, j, t, halves_low::upper_3(t), 3, r);
-    let t = middle(32, 2, j, 3, r);
-    let j = half(32, 2, j, t, halves_low::upper_3(t), 3, r);
-    let t = middle(32, 1, j, 3, r);
-    half(32, 1, j, t, halves_low::upper_3(t), 3, r)
-}
-
-fn within_16_3(s: u64, r: u64, a: u64) -> u64
-    requires { ⌜ Sought 64 3 s r a × (r < 4960) ⌝ }
-    ensures { λ j. ⌜ Among 0 3 r j 16 ⌝ }
-{
-    if s <= 16 {
-        return narrow(16, 3, s, r, a);
-    }
-    let j = below(0, 32, 3, 0, 4960, r);
-    let t = middle(0, 16, j, 3, r);
-    half(0, 16, j, t, halves_low::lower_3(t), 3, r)
-}
-
-fn within_8_3(s: u64, r: u64, a: u64) -> u64
-    requires { ⌜ Sought 64 3 s r a × (r < 4960) ⌝ }
-    ensures { λ j. ⌜ Among 0 3 r j 8 ⌝ }
-{
-    if s <= 8 {
-        return narrow(8, 3, s, r, a);
-    }
-    let j = within_16_3(s, r, a);
-    let t = middle(0, 8, j, 3, r);
-    half(0, 8, j, t, halves_low::lower_3(t), 3, r)
-}
-
-fn below_3(s: u64, r: u64, a: u64) -> u64
-    requires { ⌜ Sought 64 3 s r a × (r < 4960) ⌝ }
-    ensures { λ j. ⌜ Among 0 3 r j 1 ⌝ }
-{
-    let j = within_8_3(s, r, a);
+    let j = rows(0, 8, 0, 3, 8, r, a);
     let t = middle(0, 4, j, 3, r);
     let j = half(0, 4, j, t, halves_low::lower_3(t), 3, r);
     let t = middle(0, 2, j, 3, r);
     let j = half(0, 2, j, t, halves_low::lower_3(t), 3, r);
     let t = middle(0, 1, j, 3, r);
-    half(0, 1, j, t, halves_low::lower_3(t), 3, r)
-}
-
-pub fn from_3(s: u64, r: u64, a: u64) -> u64
-    requires { ⌜ Sought 64 3 s r a ⌝ }
-    ensures { λ x. ⌜ x ≡ a + value 3 r ⌝ }
-{
-    if 4960 <= r {
-        let j = above_3(s, r, a);
-        let t = 32 + j;
-        let c = halves_low::upper_3(t);
-        let x = with(32, j, t, c, 3, s, r, a);
-        return from_2(t, r - c, x);
-    }
-    let j = below_3(s, r, a);
+    let j = half(0, 1, j, t, halves_low::lower_3(t), 3, r);
     let t = 0 + j;
     let c = halves_low::lower_3(t);
-    let x = with(0, j, t, c, 3, s, r, a);
-    from_2(t, r - c, x)
+    let x = with(0, j, t, c, 3, 8, r, a);
+    below_8_2(r - c, x)
 }
 
-fn above_4(s: u64, r: u64, a: u64) -> u64
-    requires { ⌜ Sought 64 4 s r a × (35960 ≤ r) ⌝ }
-    ensures { λ j. ⌜ Among 32 4 r j 1 ⌝ }
+fn below_8_4(r: u64, a: u64) -> u64
+    requires { ⌜ Sought 64 4 8 r a ⌝ }
+    ensures { λ x. ⌜ x ≡ a + value 4 r ⌝ }
 {
-    let j = above(4, 35960, s, r, a);
-    let t = middle(32, 16, j, 4, r);
-    let j = half(32, 16, j, t, halves_low::upper_4(t), 4, r);
-    let t = middle(32, 8, j, 4, r);
-    let j = half(32, 8, j, t, halves_low::upper_4(t), 4, r);
-    let t = middle(32, 4, j, 4, r);
-    let j = half(32, 4, j, t, halves_low::upper_4(t), 4, r);
-    let t = middle(32, 2, j, 4, r);
-    let j = half(32, 2, j, t, halves_low::upper_4(t), 4, r);
-    let t = middle(32, 1, j, 4, r);
-    half(32, 1, j, t, halves_low::upper_4(t), 4, r)
-}
-
-fn within_16_4(s: u64, r: u64, a: u64) -> u64
-    requires { ⌜ Sought 64 4 s r a × (r < 35960) ⌝ }
-    ensures { λ j. ⌜ Among 0 4 r j 16 ⌝ }
-{
-    if s <= 16 {
-        return narrow(16, 4, s, r, a);
-    }
-    let j = below(0, 32, 4, 0, 35960, r);
-    let t = middle(0, 16, j, 4, r);
-    half(0, 16, j, t, halves_low::lower_4(t), 4, r)
-}
-
-fn within_8_4(s: u64, r: u64, a: u64) -> u64
-    requires { ⌜ Sought 64 4 s r a × (r < 35960) ⌝ }
-    ensures { λ j. ⌜ Among 0 4 r j 8 ⌝ }
-{
-    if s <= 8 {
-        return narrow(8, 4, s, r, a);
-    }
-    let j = within_16_4(s, r, a);
-    let t = middle(0, 8, j, 4, r);
-    half(0, 8, j, t, halves_low::lower_4(t), 4, r)
-}
-
-fn below_4(s: u64, r: u64, a: u64) -> u64
-    requires { ⌜ Sought 64 4 s r a × (r < 35960) ⌝ }
-    ensures { λ j. ⌜ Among 0 4 r j 1 ⌝ }
-{
-    let j = within_8_4(s, r, a);
+    let j = rows(0, 8, 0, 4, 8, r, a);
     let t = middle(0, 4, j, 4, r);
     let j = half(0, 4, j, t, halves_low::lower_4(t), 4, r);
     let t = middle(0, 2, j, 4, r);
     let j = half(0, 2, j, t, halves_low::lower_4(t), 4, r);
     let t = middle(0, 1, j, 4, r);
-    half(0, 1, j, t, halves_low::lower_4(t), 4, r)
-}
-
-pub fn from_4(s: u64, r: u64, a: u64) -> u64
-    requires { ⌜ Sought 64 4 s r a ⌝ }
-    ensures { λ x. ⌜ x ≡ a + value 4 r ⌝ }
-{
-    if 35960 <= r {
-        let j = above_4(s, r, a);
-        let t = 32 + j;
-        let c = halves_low::upper_4(t);
-        let x = with(32, j, t, c, 4, s, r, a);
-        return from_3(t, r - c, x);
-    }
-    let j = below_4(s, r, a);
+    let j = half(0, 1, j, t, halves_low::lower_4(t), 4, r);
     let t = 0 + j;
     let c = halves_low::lower_4(t);
-    let x = with(0, j, t, c, 4, s, r, a);
-    from_3(t, r - c, x)
+    let x = with(0, j, t, c, 4, 8, r, a);
+    below_8_3(r - c, x)
 }
 
-fn above_5(s: u64, r: u64, a: u64) -> u64
-    requires { ⌜ Sought 64 5 s r a × (201376 ≤ r) ⌝ }
-    ensures { λ j. ⌜ Among 32 5 r j 1 ⌝ }
-{
-    let j = above(5, 201376, s, r, a);
-    let t = middle(32, 16, j, 5, r);
-    let j = half(32, 16, j, t, halves_low::upper_5(t), 5, r);
-    let t = middle(32, 8, j, 5, r);
-    let j = half(32, 8, j, t, halves_low::upper_5(t), 5, r);
-    let t = middle(32, 4, j, 5, r);
-    let j = half(32, 4, j, t, halves_low::upper_5(t), 5, r);
-    let t = middle(32, 2, j, 5, r);
-    let j = half(32, 2, j, t, halves_low::upper_5(t), 5, r);
-    let t = middle(32, 1, j, 5, r);
-    half(32, 1, j, t, halves_low::upper_5(t), 5, r)
-}
-
-fn within_16_5(s: u64, r: u64, a: u64) -> u64
-    requires { ⌜ Sought 64 5 s r a × (r < 201376) ⌝ }
-    ensures { λ j. ⌜ Among 0 5 r j 16 ⌝ }
-{
-    if s <= 16 {
-        return narrow(16, 5, s, r, a);
-    }
-    let j = below(0, 32, 5, 0, 201376, r);
-    let t = middle(0, 16, j, 5, r);
-    half(0, 16, j, t, halves_low::lower_5(t), 5, r)
-}
-
-fn within_8_5(s: u64, r: u64, a: u64) -> u64
-    requires { ⌜ Sought 64 5 s r a × (r < 201376) ⌝ }
-    ensures { λ j. ⌜ Among 0 5 r j 8 ⌝ }
-{
-    if s <= 8 {
-        return narrow(8, 5, s, r, a);
-    }
-    let j = within_16_5(s, r, a);
-    let t = middle(0, 8, j, 5, r);
-    half(0, 8, j, t, halves_low::lower_5(t), 5, r)
-}
-
-fn below_5(s: u64, r: u64, a: u64) -> u64
-    requires { ⌜ Sought 64 5 s r a × (r < 201376) ⌝ }
-    ensures { λ j. ⌜ Among 0 5 r j 1 ⌝ }
-{
-    let j = within_8_5(s, r, a);
-    let t = middle(0, 4, j, 5, r);
-    let j = half(0, 4, j, t, halves_low::lower_5(t), 5, r);
-    let t = middle(0, 2, j, 5, r);
-    let j = half(0, 2, j, t, halves_low::lower_5(t), 5, r);
-    let t = middle(0, 1, j, 5, r);
-    half(0, 1, j, t, halves_low::lower_5(t), 5, r)
-}
-
-pub fn from_5(s: u64, r: u64, a: u64) -> u64
-    requires { ⌜ Sought 64 5 s r a ⌝ }
+fn below_8_5(r: u64, a: u64) -> u64
+    requires { ⌜ Sought 64 5 8 r a ⌝ }
     ensures { λ x. ⌜ x ≡ a + value 5 r ⌝ }
 {
-    if 201376 <= r {
-        let j = above_5(s, r, a);
-        let t = 32 + j;
-        let c = halves_low::upper_5(t);
-        let x = with(32, j, t, c, 5, s, r, a);
-        return from_4(t, r - c, x);
-    }
-    let j = below_5(s, r, a);
-    let t = 0 + j;
+    let j = rows(4, 4, 0, 5, 8, r, a);
+    let t = middle(4, 2, j, 5, r);
+    let j = half(4, 2, j, t, halves_low::lower_5(t), 5, r);
+    let t = middle(4, 1, j, 5, r);
+    let j = half(4, 1, j, t, halves_low::lower_5(t), 5, r);
+    let t = 4 + j;
     let c = halves_low::lower_5(t);
-    let x = with(0, j, t, c, 5, s, r, a);
-    from_4(t, r - c, x)
+    let x = with(4, j, t, c, 5, 8, r, a);
+    below_8_4(r - c, x)
 }
 
-fn above_6(s: u64, r: u64, a: u64) -> u64
-    requires { ⌜ Sought 64 6 s r a × (906192 ≤ r) ⌝ }
-    ensures { λ j. ⌜ Among 32 6 r j 1 ⌝ }
-{
-    let j = above(6, 906192, s, r, a);
-    let t = middle(32, 16, j, 6, r);
-    let j = half(32, 16, j, t, halves_low::upper_6(t), 6, r);
-    let t = middle(32, 8, j, 6, r);
-    let j = half(32, 8, j, t, halves_low::upper_6(t), 6, r);
-    let t = middle(32, 4, j, 6, r);
-    let j = half(32, 4, j, t, halves_low::upper_6(t), 6, r);
-    let t = middle(32, 2, j, 6, r);
-    let j = half(32, 2, j, t, halves_low::upper_6(t), 6, r);
-    let t = middle(32, 1, j, 6, r);
-    half(32, 1, j, t, halves_low::upper_6(t), 6, r)
-}
-
-fn within_16_6(s: u64, r: u64, a: u64) -> u64
-    requires { ⌜ Sought 64 6 s r a × (r < 906192) ⌝ }
-    ensures { λ j. ⌜ Among 0 6 r j 16 ⌝ }
-{
-    if s <= 16 {
-        return narrow(16, 6, s, r, a);
-    }
-    let j = below(0, 32, 6, 0, 906192, r);
-    let t = middle(0, 16, j, 6, r);
-    half(0, 16, j, t, halves_low::lower_6(t), 6, r)
-}
-
-fn within_8_6(s: u64, r: u64, a: u64) -> u64
-    requires { ⌜ Sought 64 6 s r a × (r < 906192) ⌝ }
-    ensures { λ j. ⌜ Among 0 6 r j 8 ⌝ }
-{
-    if s <= 8 {
-        return narrow(8, 6, s, r, a);
-    }
-    let j = within_16_6(s, r, a);
-    let t = middle(0, 8, j, 6, r);
-    half(0, 8, j, t, halves_low::lower_6(t), 6, r)
-}
-
-fn below_6(s: u64, r: u64, a: u64) -> u64
-    requires { ⌜ Sought 64 6 s r a × (r < 906192) ⌝ }
-    ensures { λ j. ⌜ Among 0 6 r j 1 ⌝ }
-{
-    let j = within_8_6(s, r, a);
-    let t = middle(0, 4, j, 6, r);
-    let j = half(0, 4, j, t, halves_low::lower_6(t), 6, r);
-    let t = middle(0, 2, j, 6, r);
-    let j = half(0, 2, j, t, halves_low::lower_6(t), 6, r);
-    let t = middle(0, 1, j, 6, r);
-    half(0, 1, j, t, halves_low::lower_6(t), 6, r)
-}
-
-pub fn from_6(s: u64, r: u64, a: u64) -> u64
-    requires { ⌜ Sought 64 6 s r a ⌝ }
+fn below_8_6(r: u64, a: u64) -> u64
+    requires { ⌜ Sought 64 6 8 r a ⌝ }
     ensures { λ x. ⌜ x ≡ a + value 6 r ⌝ }
 {
-    if 906192 <= r {
-        let j = above_6(s, r, a);
-        let t = 32 + j;
-        let c = halves_low::upper_6(t);
-        let x = with(32, j, t, c, 6, s, r, a);
-        return from_5(t, r - c, x);
-    }
-    let j = below_6(s, r, a);
-    let t = 0 + j;
+    let j = rows(4, 4, 0, 6, 8, r, a);
+    let t = middle(4, 2, j, 6, r);
+    let j = half(4, 2, j, t, halves_low::lower_6(t), 6, r);
+    let t = middle(4, 1, j, 6, r);
+    let j = half(4, 1, j, t, halves_low::lower_6(t), 6, r);
+    let t = 4 + j;
     let c = halves_low::lower_6(t);
-    let x = with(0, j, t, c, 6, s, r, a);
-    from_5(t, r - c, x)
+    let x = with(4, j, t, c, 6, 8, r, a);
+    below_8_5(r - c, x)
 }
 
-fn above_7(s: u64, r: u64, a: u64) -> u64
-    requires { ⌜ Sought 64 7 s r a × (3365856 ≤ r) ⌝ }
-    ensures { λ j. ⌜ Among 32 7 r j 1 ⌝ }
-{
-    let j = above(7, 3365856, s, r, a);
-    let t = middle(32, 16, j, 7, r);
-    let j = half(32, 16, j, t, halves_low::upper_7(t), 7, r);
-    let t = middle(32, 8, j, 7, r);
-    let j = half(32, 8, j, t, halves_low::upper_7(t), 7, r);
-    let t = middle(32, 4, j, 7, r);
-    let j = half(32, 4, j, t, halves_low::upper_7(t), 7, r);
-    let t = middle(32, 2, j, 7, r);
-    let j = half(32, 2, j, t, halves_low::upper_7(t), 7, r);
-    let t = middle(32, 1, j, 7, r);
-    half(32, 1, j, t, halves_low::upper_7(t), 7, r)
-}
-
-fn within_16_7(s: u64, r: u64, a: u64) -> u64
-    requires { ⌜ Sought 64 7 s r a × (r < 3365856) ⌝ }
-    ensures { λ j. ⌜ Among 0 7 r j 16 ⌝ }
-{
-    if s <= 16 {
-        return narrow(16, 7, s, r, a);
-    }
-    let j = below(0, 32, 7, 0, 3365856, r);
-    let t = middle(0, 16, j, 7, r);
-    half(0, 16, j, t, halves_low::lower_7(t), 7, r)
-}
-
-fn within_8_7(s: u64, r: u64, a: u64) -> u64
-    requires { ⌜ Sought 64 7 s r a × (r < 3365856) ⌝ }
-    ensures { λ j. ⌜ Among 0 7 r j 8 ⌝ }
-{
-    if s <= 8 {
-        return narrow(8, 7, s, r, a);
-    }
-    let j = within_16_7(s, r, a);
-    let t = middle(0, 8, j, 7, r);
-    half(0, 8, j, t, halves_low::lower_7(t), 7, r)
-}
-
-fn below_7(s: u64, r: u64, a: u64) -> u64
-    requires { ⌜ Sought 64 7 s r a × (r < 3365856) ⌝ }
-    ensures { λ j. ⌜ Among 0 7 r j 1 ⌝ }
-{
-    let j = within_8_7(s, r, a);
-    let t = middle(0, 4, j, 7, r);
-    let j = half(0, 4, j, t, halves_low::lower_7(t), 7, r);
-    let t = middle(0, 2, j, 7, r);
-    let j = half(0, 2, j, t, halves_low::lower_7(t), 7, r);
-    let t = middle(0, 1, j, 7, r);
-    half(0, 1, j, t, halves_low::lower_7(t), 7, r)
-}
-
-pub fn from_7(s: u64, r: u64, a: u64) -> u64
-    requires { ⌜ Sought 64 7 s r a ⌝ }
+fn below_8_7(r: u64, a: u64) -> u64
+    requires { ⌜ Sought 64 7 8 r a ⌝ }
     ensures { λ x. ⌜ x ≡ a + value 7 r ⌝ }
 {
-    if 3365856 <= r {
-        let j = above_7(s, r, a);
-        let t = 32 + j;
-        let c = halves_low::upper_7(t);
-        let x = with(32, j, t, c, 7, s, r, a);
-        return from_6(t, r - c, x);
-    }
-    let j = below_7(s, r, a);
-    let t = 0 + j;
+    let j = rows(6, 2, 0, 7, 8, r, a);
+    let t = middle(6, 1, j, 7, r);
+    let j = half(6, 1, j, t, halves_low::lower_7(t), 7, r);
+    let t = 6 + j;
     let c = halves_low::lower_7(t);
-    let x = with(0, j, t, c, 7, s, r, a);
-    from_6(t, r - c, x)
+    let x = with(6, j, t, c, 7, 8, r, a);
+    below_8_6(r - c, x)
 }
 
-fn above_8(s: u64, r: u64, a: u64) -> u64
-    requires { ⌜ Sought 64 8 s r a × (10518300 ≤ r) ⌝ }
-    ensures { λ j. ⌜ Among 32 8 r j 1 ⌝ }
-{
-    let j = above(8, 10518300, s, r, a);
-    let t = middle(32, 16, j, 8, r);
-    let j = half(32, 16, j, t, halves_low::upper_8(t), 8, r);
-    let t = middle(32, 8, j, 8, r);
-    let j = half(32, 8, j, t, halves_low::upper_8(t), 8, r);
-    let t = middle(32, 4, j, 8, r);
-    let j = half(32, 4, j, t, halves_low::upper_8(t), 8, r);
-    let t = middle(32, 2, j, 8, r);
-    let j = half(32, 2, j, t, halves_low::upper_8(t), 8, r);
-    let t = middle(32, 1, j, 8, r);
-    half(32, 1, j, t, halves_low::upper_8(t), 8, r)
-}
-
-fn within_16_8(s: u64, r: u64, a: u64) -> u64
-    requires { ⌜ Sought 64 8 s r a × (r < 10518300) ⌝ }
-    ensures { λ j. ⌜ Among 0 8 r j 16 ⌝ }
-{
-    if s <= 16 {
-        return narrow(16, 8, s, r, a);
-    }
-    let j = below(0, 32, 8, 0, 10518300, r);
-    let t = middle(0, 16, j, 8, r);
-    half(0, 16, j, t, halves_low::lower_8(t), 8, r)
-}
-
-fn within_8_8(s: u64, r: u64, a: u64) -> u64
-    requires { ⌜ Sought 64 8 s r a × (r < 10518300) ⌝ }
-    ensures { λ j. ⌜ Among 0 8 r j 8 ⌝ }
-{
-    if s <= 8 {
-        return narrow(8, 8, s, r, a);
-    }
-    let j = within_16_8(s, r, a);
-    let t = middle(0, 8, j, 8, r);
-    half(0, 8, j, t, halves_low::lower_8(t), 8, r)
-}
-
-fn below_8(s: u64, r: u64, a: u64) -> u64
-    requires { ⌜ Sought 64 8 s r a × (r < 10518300) ⌝ }
-    ensures { λ j. ⌜ Among 0 8 r j 1 ⌝ }
-{
-    let j = within_8_8(s, r, a);
-    let t = middle(0, 4, j, 8, r);
-    let j = half(0, 4, j, t, halves_low::lower_8(t), 8, r);
-    let t = middle(0, 2, j, 8, r);
-    let j = half(0, 2, j, t, halves_low::lower_8(t), 8, r);
-    let t = middle(0, 1, j, 8, r);
-    half(0, 1, j, t, halves_low::lower_8(t), 8, r)
-}
-
-pub fn from_8(s: u64, r: u64, a: u64) -> u64
-    requires { ⌜ Sought 64 8 s r a ⌝ }
+fn below_8_8(r: u64, a: u64) -> u64
+    requires { ⌜ Sought 64 8 8 r a ⌝ }
     ensures { λ x. ⌜ x ≡ a + value 8 r ⌝ }
 {
-    if 10518300 <= r {
-        let j = above_8(s, r, a);
-        let t = 32 + j;
-        let c = halves_low::upper_8(t);
-        let x = with(32, j, t, c, 8, s, r, a);
-        return from_7(t, r - c, x);
-    }
-    let j = below_8(s, r, a);
-    let t = 0 + j;
+    let j = rows(7, 1, 0, 8, 8, r, a);
+    let t = 7 + j;
     let c = halves_low::lower_8(t);
-    let x = with(0, j, t, c, 8, s, r, a);
-    from_7(t, r - c, x)
+    let x = with(7, j, t, c, 8, 8, r, a);
+    below_8_7(r - c, x)
 }
 
-fn above_9(s: u64, r: u64, a: u64) -> u64
-    requires { ⌜ Sought 64 9 s r a × (28048800 ≤ r) ⌝ }
-    ensures { λ j. ⌜ Among 32 9 r j 1 ⌝ }
+fn below_16_2(r: u64, a: u64) -> u64
+    requires { ⌜ Sought 64 2 16 r a ⌝ }
+    ensures { λ x. ⌜ x ≡ a + value 2 r ⌝ }
 {
-    let j = above(9, 28048800, s, r, a);
-    let t = middle(32, 16, j, 9, r);
-    let j = half(32, 16, j, t, halves_low::upper_9(t), 9, r);
-    let t = middle(32, 8, j, 9, r);
-    let j = half(32, 8, j, t, halves_low::upper_9(t), 9, r);
-    let t = middle(32, 4, j, 9, r);
-    let j = half(32, 4, j, t, halves_low::upper_9(t), 9, r);
-    let t = middle(32, 2, j, 9, r);
-    let j = half(32, 2, j, t, halves_low::upper_9(t), 9, r);
-    let t = middle(32, 1, j, 9, r);
-    half(32, 1, j, t, halves_low::upper_9(t), 9, r)
-}
-
-fn within_16_9(s: u64, r: u64, a: u64) -> u64
-    requires { ⌜ Sought 64 9 s r a × (r < 28048800) ⌝ }
-    ensures { λ j. ⌜ Among 0 9 r j 16 ⌝ }
-{
-    if s <= 16 {
-        return narrow(16, 9, s, r, a);
+    if r < 28 {
+        return below_8_2(r, below(8, 28, 2, 16, r, a));
     }
-    let j = below(0, 32, 9, 0, 28048800, r);
-    let t = middle(0, 16, j, 9, r);
-    half(0, 16, j, t, halves_low::lower_9(t), 9, r)
+    let j = rows(8, 8, 28, 2, 16, r, a);
+    let t = middle(8, 4, j, 2, r);
+    let j = half(8, 4, j, t, halves_low::lower_2(t), 2, r);
+    let t = middle(8, 2, j, 2, r);
+    let j = half(8, 2, j, t, halves_low::lower_2(t), 2, r);
+    let t = middle(8, 1, j, 2, r);
+    let j = half(8, 1, j, t, halves_low::lower_2(t), 2, r);
+    let t = 8 + j;
+    let c = halves_low::lower_2(t);
+    let x = with(8, j, t, c, 2, 16, r, a);
+    last(16, r - c, x)
 }
 
-fn below_9(s: u64, r: u64, a: u64) -> u64
-    requires { ⌜ Sought 64 9 s r a × (r < 28048800) ⌝ }
-    ensures { λ j. ⌜ Among 0 9 r j 1 ⌝ }
+fn below_16_3(r: u64, a: u64) -> u64
+    requires { ⌜ Sought 64 3 16 r a ⌝ }
+    ensures { λ x. ⌜ x ≡ a + value 3 r ⌝ }
 {
-    let j = within_16_9(s, r, a);
-    let t = middle(0, 8, j, 9, r);
-    let j = half(0, 8, j, t, halves_low::lower_9(t), 9, r);
-    let t = middle(0, 4, j, 9, r);
-    let j = half(0, 4, j, t, halves_low::lower_9(t), 9, r);
-    let t = middle(0, 2, j, 9, r);
-    let j = half(0, 2, j, t, halves_low::lower_9(t), 9, r);
-    let t = middle(0, 1, j, 9, r);
-    half(0, 1, j, t, halves_low::lower_9(t), 9, r)
+    if r < 56 {
+        return below_8_3(r, below(8, 56, 3, 16, r, a));
+    }
+    let j = rows(8, 8, 56, 3, 16, r, a);
+    let t = middle(8, 4, j, 3, r);
+    let j = half(8, 4, j, t, halves_low::lower_3(t), 3, r);
+    let t = middle(8, 2, j, 3, r);
+    let j = half(8, 2, j, t, halves_low::lower_3(t), 3, r);
+    let t = middle(8, 1, j, 3, r);
+    let j = half(8, 1, j, t, halves_low::lower_3(t), 3, r);
+    let t = 8 + j;
+    let c = halves_low::lower_3(t);
+    let x = with(8, j, t, c, 3, 16, r, a);
+    below_16_2(r - c, x)
 }
 
-pub fn from_9(s: u64, r: u64, a: u64) -> u64
-    requires { ⌜ Sought 64 9 s r a ⌝ }
+fn below_16_4(r: u64, a: u64) -> u64
+    requires { ⌜ Sought 64 4 16 r a ⌝ }
+    ensures { λ x. ⌜ x ≡ a + value 4 r ⌝ }
+{
+    if r < 70 {
+        return below_8_4(r, below(8, 70, 4, 16, r, a));
+    }
+    let j = rows(8, 8, 70, 4, 16, r, a);
+    let t = middle(8, 4, j, 4, r);
+    let j = half(8, 4, j, t, halves_low::lower_4(t), 4, r);
+    let t = middle(8, 2, j, 4, r);
+    let j = half(8, 2, j, t, halves_low::lower_4(t), 4, r);
+    let t = middle(8, 1, j, 4, r);
+    let j = half(8, 1, j, t, halves_low::lower_4(t), 4, r);
+    let t = 8 + j;
+    let c = halves_low::lower_4(t);
+    let x = with(8, j, t, c, 4, 16, r, a);
+    below_16_3(r - c, x)
+}
+
+fn below_16_5(r: u64, a: u64) -> u64
+    requires { ⌜ Sought 64 5 16 r a ⌝ }
+    ensures { λ x. ⌜ x ≡ a + value 5 r ⌝ }
+{
+    if r < 56 {
+        return below_8_5(r, below(8, 56, 5, 16, r, a));
+    }
+    let j = rows(8, 8, 56, 5, 16, r, a);
+    let t = middle(8, 4, j, 5, r);
+    let j = half(8, 4, j, t, halves_low::lower_5(t), 5, r);
+    let t = middle(8, 2, j, 5, r);
+    let j = half(8, 2, j, t, halves_low::lower_5(t), 5, r);
+    let t = middle(8, 1, j, 5, r);
+    let j = half(8, 1, j, t, halves_low::lower_5(t), 5, r);
+    let t = 8 + j;
+    let c = halves_low::lower_5(t);
+    let x = with(8, j, t, c, 5, 16, r, a);
+    below_16_4(r - c, x)
+}
+
+fn below_16_6(r: u64, a: u64) -> u64
+    requires { ⌜ Sought 64 6 16 r a ⌝ }
+    ensures { λ x. ⌜ x ≡ a + value 6 r ⌝ }
+{
+    if r < 28 {
+        return below_8_6(r, below(8, 28, 6, 16, r, a));
+    }
+    let j = rows(8, 8, 28, 6, 16, r, a);
+    let t = middle(8, 4, j, 6, r);
+    let j = half(8, 4, j, t, halves_low::lower_6(t), 6, r);
+    let t = middle(8, 2, j, 6, r);
+    let j = half(8, 2, j, t, halves_low::lower_6(t), 6, r);
+    let t = middle(8, 1, j, 6, r);
+    let j = half(8, 1, j, t, halves_low::lower_6(t), 6, r);
+    let t = 8 + j;
+    let c = halves_low::lower_6(t);
+    let x = with(8, j, t, c, 6, 16, r, a);
+    below_16_5(r - c, x)
+}
+
+fn below_16_7(r: u64, a: u64) -> u64
+    requires { ⌜ Sought 64 7 16 r a ⌝ }
+    ensures { λ x. ⌜ x ≡ a + value 7 r ⌝ }
+{
+    if r < 8 {
+        return below_8_7(r, below(8, 8, 7, 16, r, a));
+    }
+    let j = rows(8, 8, 8, 7, 16, r, a);
+    let t = middle(8, 4, j, 7, r);
+    let j = half(8, 4, j, t, halves_low::lower_7(t), 7, r);
+    let t = middle(8, 2, j, 7, r);
+    let j = half(8, 2, j, t, halves_low::lower_7(t), 7, r);
+    let t = middle(8, 1, j, 7, r);
+    let j = half(8, 1, j, t, halves_low::lower_7(t), 7, r);
+    let t = 8 + j;
+    let c = halves_low::lower_7(t);
+    let x = with(8, j, t, c, 7, 16, r, a);
+    below_16_6(r - c, x)
+}
+
+fn below_16_8(r: u64, a: u64) -> u64
+    requires { ⌜ Sought 64 8 16 r a ⌝ }
+    ensures { λ x. ⌜ x ≡ a + value 8 r ⌝ }
+{
+    if r < 1 {
+        return below_8_8(r, below(8, 1, 8, 16, r, a));
+    }
+    let j = rows(8, 8, 1, 8, 16, r, a);
+    let t = middle(8, 4, j, 8, r);
+    let j = half(8, 4, j, t, halves_low::lower_8(t), 8, r);
+    let t = middle(8, 2, j, 8, r);
+    let j = half(8, 2, j, t, halves_low::lower_8(t), 8, r);
+    let t = middle(8, 1, j, 8, r);
+    let j = half(8, 1, j, t, halves_low::lower_8(t), 8, r);
+    let t = 8 + j;
+    let c = halves_low::lower_8(t);
+    let x = with(8, j, t, c, 8, 16, r, a);
+    below_16_7(r - c, x)
+}
+
+fn below_16_9(r: u64, a: u64) -> u64
+    requires { ⌜ Sought 64 9 16 r a ⌝ }
     ensures { λ x. ⌜ x ≡ a + value 9 r ⌝ }
 {
-    if 28048800 <= r {
-        let j = above_9(s, r, a);
-        let t = 32 + j;
-        let c = halves_low::upper_9(t);
-        let x = with(32, j, t, c, 9, s, r, a);
-        return from_8(t, r - c, x);
-    }
-    let j = below_9(s, r, a);
-    let t = 0 + j;
+    let j = rows(8, 8, 0, 9, 16, r, a);
+    let t = middle(8, 4, j, 9, r);
+    let j = half(8, 4, j, t, halves_low::lower_9(t), 9, r);
+    let t = middle(8, 2, j, 9, r);
+    let j = half(8, 2, j, t, halves_low::lower_9(t), 9, r);
+    let t = middle(8, 1, j, 9, r);
+    let j = half(8, 1, j, t, halves_low::lower_9(t), 9, r);
+    let t = 8 + j;
     let c = halves_low::lower_9(t);
-    let x = with(0, j, t, c, 9, s, r, a);
-    from_8(t, r - c, x)
+    let x = with(8, j, t, c, 9, 16, r, a);
+    below_16_8(r - c, x)
 }
 
-fn above_10(s: u64, r: u64, a: u64) -> u64
-    requires { ⌜ Sought 64 10 s r a × (64512240 ≤ r) ⌝ }
-    ensures { λ j. ⌜ Among 32 10 r j 1 ⌝ }
-{
-    let j = above(10, 64512240, s, r, a);
-    let t = middle(32, 16, j, 10, r);
-    let j = half(32, 16, j, t, halves_low::upper_10(t), 10, r);
-    let t = middle(32, 8, j, 10, r);
-    let j = half(32, 8, j, t, halves_low::upper_10(t), 10, r);
-    let t = middle(32, 4, j, 10, r);
-    let j = half(32, 4, j, t, halves_low::upper_10(t), 10, r);
-    let t = middle(32, 2, j, 10, r);
-    let j = half(32, 2, j, t, halves_low::upper_10(t), 10, r);
-    let t = middle(32, 1, j, 10, r);
-    half(32, 1, j, t, halves_low::upper_10(t), 10, r)
-}
-
-fn within_16_10(s: u64, r: u64, a: u64) -> u64
-    requires { ⌜ Sought 64 10 s r a × (r < 64512240) ⌝ }
-    ensures { λ j. ⌜ Among 0 10 r j 16 ⌝ }
-{
-    if s <= 16 {
-        return narrow(16, 10, s, r, a);
-    }
-    let j = below(0, 32, 10, 0, 64512240, r);
-    let t = middle(0, 16, j, 10, r);
-    half(0, 16, j, t, halves_low::lower_10(t), 10, r)
-}
-
-fn below_10(s: u64, r: u64, a: u64) -> u64
-    requires { ⌜ Sought 64 10 s r a × (r < 64512240) ⌝ }
-    ensures { λ j. ⌜ Among 0 10 r j 1 ⌝ }
-{
-    let j = within_16_10(s, r, a);
-    let t = middle(0, 8, j, 10, r);
-    let j = half(0, 8, j, t, halves_low::lower_10(t), 10, r);
-    let t = middle(0, 4, j, 10, r);
-    let j = half(0, 4, j, t, halves_low::lower_10(t), 10, r);
-    let t = middle(0, 2, j, 10, r);
-    let j = half(0, 2, j, t, halves_low::lower_10(t), 10, r);
-    let t = middle(0, 1, j, 10, r);
-    half(0, 1, j, t, halves_low::lower_10(t), 10, r)
-}
-
-pub fn from_10(s: u64, r: u64, a: u64) -> u64
-    requires { ⌜ Sought 64 10 s r a ⌝ }
+fn below_16_10(r: u64, a: u64) -> u64
+    requires { ⌜ Sought 64 10 16 r a ⌝ }
     ensures { λ x. ⌜ x ≡ a + value 10 r ⌝ }
 {
-    if 64512240 <= r {
-        let j = above_10(s, r, a);
-        let t = 32 + j;
-        let c = halves_low::upper_10(t);
-        let x = with(32, j, t, c, 10, s, r, a);
-        return from_9(t, r - c, x);
-    }
-    let j = below_10(s, r, a);
-    let t = 0 + j;
+    let j = rows(8, 8, 0, 10, 16, r, a);
+    let t = middle(8, 4, j, 10, r);
+    let j = half(8, 4, j, t, halves_low::lower_10(t), 10, r);
+    let t = middle(8, 2, j, 10, r);
+    let j = half(8, 2, j, t, halves_low::lower_10(t), 10, r);
+    let t = middle(8, 1, j, 10, r);
+    let j = half(8, 1, j, t, halves_low::lower_10(t), 10, r);
+    let t = 8 + j;
     let c = halves_low::lower_10(t);
-    let x = with(0, j, t, c, 10, s, r, a);
-    from_9(t, r - c, x)
+    let x = with(8, j, t, c, 10, 16, r, a);
+    below_16_9(r - c, x)
 }
 
-fn above_11(s: u64, r: u64, a: u64) -> u64
-    requires { ⌜ Sought 64 11 s r a × (129024480 ≤ r) ⌝ }
-    ensures { λ j. ⌜ Among 32 11 r j 1 ⌝ }
-{
-    let j = above(11, 129024480, s, r, a);
-    let t = middle(32, 16, j, 11, r);
-    let j = half(32, 16, j, t, halves_low::upper_11(t), 11, r);
-    let t = middle(32, 8, j, 11, r);
-    let j = half(32, 8, j, t, halves_low::upper_11(t), 11, r);
-    let t = middle(32, 4, j, 11, r);
-    let j = half(32, 4, j, t, halves_low::upper_11(t), 11, r);
-    let t = middle(32, 2, j, 11, r);
-    let j = half(32, 2, j, t, halves_low::upper_11(t), 11, r);
-    let t = middle(32, 1, j, 11, r);
-    half(32, 1, j, t, halves_low::upper_11(t), 11, r)
-}
-
-fn within_16_11(s: u64, r: u64, a: u64) -> u64
-    requires { ⌜ Sought 64 11 s r a × (r < 129024480) ⌝ }
-    ensures { λ j. ⌜ Among 0 11 r j 16 ⌝ }
-{
-    if s <= 16 {
-        return narrow(16, 11, s, r, a);
-    }
-    let j = below(0, 32, 11, 0, 129024480, r);
-    let t = middle(0, 16, j, 11, r);
-    half(0, 16, j, t, halves_low::lower_11(t), 11, r)
-}
-
-fn below_11(s: u64, r: u64, a: u64) -> u64
-    requires { ⌜ Sought 64 11 s r a × (r < 129024480) ⌝ }
-    ensures { λ j. ⌜ Among 0 11 r j 1 ⌝ }
-{
-    let j = within_16_11(s, r, a);
-    let t = middle(0, 8, j, 11, r);
-    let j = half(0, 8, j, t, halves_low::lower_11(t), 11, r);
-    let t = middle(0, 4, j, 11, r);
-    let j = half(0, 4, j, t, halves_low::lower_11(t), 11, r);
-    let t = middle(0, 2, j, 11, r);
-    let j = half(0, 2, j, t, halves_low::lower_11(t), 11, r);
-    let t = middle(0, 1, j, 11, r);
-    half(0, 1, j, t, halves_low::lower_11(t), 11, r)
-}
-
-pub fn from_11(s: u64, r: u64, a: u64) -> u64
-    requires { ⌜ Sought 64 11 s r a ⌝ }
+fn below_16_11(r: u64, a: u64) -> u64
+    requires { ⌜ Sought 64 11 16 r a ⌝ }
     ensures { λ x. ⌜ x ≡ a + value 11 r ⌝ }
 {
-    if 129024480 <= r {
-        let j = above_11(s, r, a);
-        let t = 32 + j;
-        let c = halves_low::upper_11(t);
-        let x = with(32, j, t, c, 11, s, r, a);
-        return from_10(t, r - c, x);
-    }
-    let j = below_11(s, r, a);
-    let t = 0 + j;
+    let j = rows(8, 8, 0, 11, 16, r, a);
+    let t = middle(8, 4, j, 11, r);
+    let j = half(8, 4, j, t, halves_low::lower_11(t), 11, r);
+    let t = middle(8, 2, j, 11, r);
+    let j = half(8, 2, j, t, halves_low::lower_11(t), 11, r);
+    let t = middle(8, 1, j, 11, r);
+    let j = half(8, 1, j, t, halves_low::lower_11(t), 11, r);
+    let t = 8 + j;
     let c = halves_low::lower_11(t);
-    let x = with(0, j, t, c, 11, s, r, a);
-    from_10(t, r - c, x)
+    let x = with(8, j, t, c, 11, 16, r, a);
+    below_16_10(r - c, x)
 }
 
-fn above_12(s: u64, r: u64, a: u64) -> u64
-    requires { ⌜ Sought 64 12 s r a × (225792840 ≤ r) ⌝ }
-    ensures { λ j. ⌜ Among 32 12 r j 1 ⌝ }
-{
-    let j = above(12, 225792840, s, r, a);
-    let t = middle(32, 16, j, 12, r);
-    let j = half(32, 16, j, t, halves_low::upper_12(t), 12, r);
-    let t = middle(32, 8, j, 12, r);
-    let j = half(32, 8, j, t, halves_low::upper_12(t), 12, r);
-    let t = middle(32, 4, j, 12, r);
-    let j = half(32, 4, j, t, halves_low::upper_12(t), 12, r);
-    let t = middle(32, 2, j, 12, r);
-    let j = half(32, 2, j, t, halves_low::upper_12(t), 12, r);
-    let t = middle(32, 1, j, 12, r);
-    half(32, 1, j, t, halves_low::upper_12(t), 12, r)
-}
-
-fn within_16_12(s: u64, r: u64, a: u64) -> u64
-    requires { ⌜ Sought 64 12 s r a × (r < 225792840) ⌝ }
-    ensures { λ j. ⌜ Among 0 12 r j 16 ⌝ }
-{
-    if s <= 16 {
-        return narrow(16, 12, s, r, a);
-    }
-    let j = below(0, 32, 12, 0, 225792840, r);
-    let t = middle(0, 16, j, 12, r);
-    half(0, 16, j, t, halves_low::lower_12(t), 12, r)
-}
-
-fn below_12(s: u64, r: u64, a: u64) -> u64
-    requires { ⌜ Sought 64 12 s r a × (r < 225792840) ⌝ }
-    ensures { λ j. ⌜ Among 0 12 r j 1 ⌝ }
-{
-    let j = within_16_12(s, r, a);
-    let t = middle(0, 8, j, 12, r);
-    let j = half(0, 8, j, t, halves_low::lower_12(t), 12, r);
-    let t = middle(0, 4, j, 12, r);
-    let j = half(0, 4, j, t, halves_low::lower_12(t), 12, r);
-    let t = middle(0, 2, j, 12, r);
-    let j = half(0, 2, j, t, halves_low::lower_12(t), 12, r);
-    let t = middle(0, 1, j, 12, r);
-    half(0, 1, j, t, halves_low::lower_12(t), 12, r)
-}
-
-pub fn from_12(s: u64, r: u64, a: u64) -> u64
-    requires { ⌜ Sought 64 12 s r a ⌝ }
+fn below_16_12(r: u64, a: u64) -> u64
+    requires { ⌜ Sought 64 12 16 r a ⌝ }
     ensures { λ x. ⌜ x ≡ a + value 12 r ⌝ }
 {
-    if 225792840 <= r {
-        let j = above_12(s, r, a);
-        let t = 32 + j;
-        let c = halves_low::upper_12(t);
-        let x = with(32, j, t, c, 12, s, r, a);
-        return from_11(t, r - c, x);
-    }
-    let j = below_12(s, r, a);
-    let t = 0 + j;
+    let j = rows(8, 8, 0, 12, 16, r, a);
+    let t = middle(8, 4, j, 12, r);
+    let j = half(8, 4, j, t, halves_low::lower_12(t), 12, r);
+    let t = middle(8, 2, j, 12, r);
+    let j = half(8, 2, j, t, halves_low::lower_12(t), 12, r);
+    let t = middle(8, 1, j, 12, r);
+    let j = half(8, 1, j, t, halves_low::lower_12(t), 12, r);
+    let t = 8 + j;
     let c = halves_low::lower_12(t);
-    let x = with(0, j, t, c, 12, s, r, a);
-    from_11(t, r - c, x)
+    let x = with(8, j, t, c, 12, 16, r, a);
+    below_16_11(r - c, x)
 }
 
-fn above_13(s: u64, r: u64, a: u64) -> u64
-    requires { ⌜ Sought 64 13 s r a × (347373600 ≤ r) ⌝ }
-    ensures { λ j. ⌜ Among 32 13 r j 1 ⌝ }
-{
-    let j = above(13, 347373600, s, r, a);
-    let t = middle(32, 16, j, 13, r);
-    let j = half(32, 16, j, t, halves_low::upper_13(t), 13, r);
-    let t = middle(32, 8, j, 13, r);
-    let j = half(32, 8, j, t, halves_low::upper_13(t), 13, r);
-    let t = middle(32, 4, j, 13, r);
-    let j = half(32, 4, j, t, halves_low::upper_13(t), 13, r);
-    let t = middle(32, 2, j, 13, r);
-    let j = half(32, 2, j, t, halves_low::upper_13(t), 13, r);
-    let t = middle(32, 1, j, 13, r);
-    half(32, 1, j, t, halves_low::upper_13(t), 13, r)
-}
-
-fn within_16_13(s: u64, r: u64, a: u64) -> u64
-    requires { ⌜ Sought 64 13 s r a × (r < 347373600) ⌝ }
-    ensures { λ j. ⌜ Among 0 13 r j 16 ⌝ }
-{
-    if s <= 16 {
-        return narrow(16, 13, s, r, a);
-    }
-    let j = below(0, 32, 13, 0, 347373600, r);
-    let t = middle(0, 16, j, 13, r);
-    half(0, 16, j, t, halves_low::lower_13(t), 13, r)
-}
-
-fn below_13(s: u64, r: u64, a: u64) -> u64
-    requires { ⌜ Sought 64 13 s r a × (r < 347373600) ⌝ }
-    ensures { λ j. ⌜ Among 0 13 r j 1 ⌝ }
-{
-    let j = within_16_13(s, r, a);
-    let t = middle(0, 8, j, 13, r);
-    let j = half(0, 8, j, t, halves_low::lower_13(t), 13, r);
-    let t = middle(0, 4, j, 13, r);
-    let j = half(0, 4, j, t, halves_low::lower_13(t), 13, r);
-    let t = middle(0, 2, j, 13, r);
-    let j = half(0, 2, j, t, halves_low::lower_13(t), 13, r);
-    let t = middle(0, 1, j, 13, r);
-    half(0, 1, j, t, halves_low::lower_13(t), 13, r)
-}
-
-pub fn from_13(s: u64, r: u64, a: u64) -> u64
-    requires { ⌜ Sought 64 13 s r a ⌝ }
+fn below_16_13(r: u64, a: u64) -> u64
+    requires { ⌜ Sought 64 13 16 r a ⌝ }
     ensures { λ x. ⌜ x ≡ a + value 13 r ⌝ }
 {
-    if 347373600 <= r {
-        let j = above_13(s, r, a);
-        let t = 32 + j;
-        let c = halves_low::upper_13(t);
-        let x = with(32, j, t, c, 13, s, r, a);
-        return from_12(t, r - c, x);
-    }
-    let j = below_13(s, r, a);
-    let t = 0 + j;
+    let j = rows(12, 4, 0, 13, 16, r, a);
+    let t = middle(12, 2, j, 13, r);
+    let j = half(12, 2, j, t, halves_low::lower_13(t), 13, r);
+    let t = middle(12, 1, j, 13, r);
+    let j = half(12, 1, j, t, halves_low::lower_13(t), 13, r);
+    let t = 12 + j;
     let c = halves_low::lower_13(t);
-    let x = with(0, j, t, c, 13, s, r, a);
-    from_12(t, r - c, x)
+    let x = with(12, j, t, c, 13, 16, r, a);
+    below_16_12(r - c, x)
 }
 
-fn above_14(s: u64, r: u64, a: u64) -> u64
-    requires { ⌜ Sought 64 14 s r a × (471435600 ≤ r) ⌝ }
-    ensures { λ j. ⌜ Among 32 14 r j 1 ⌝ }
-{
-    let j = above(14, 471435600, s, r, a);
-    let t = middle(32, 16, j, 14, r);
-    let j = half(32, 16, j, t, halves_low::upper_14(t), 14, r);
-    let t = middle(32, 8, j, 14, r);
-    let j = half(32, 8, j, t, halves_low::upper_14(t), 14, r);
-    let t = middle(32, 4, j, 14, r);
-    let j = half(32, 4, j, t, halves_low::upper_14(t), 14, r);
-    let t = middle(32, 2, j, 14, r);
-    let j = half(32, 2, j, t, halves_low::upper_14(t), 14, r);
-    let t = middle(32, 1, j, 14, r);
-    half(32, 1, j, t, halves_low::upper_14(t), 14, r)
-}
-
-fn within_16_14(s: u64, r: u64, a: u64) -> u64
-    requires { ⌜ Sought 64 14 s r a × (r < 471435600) ⌝ }
-    ensures { λ j. ⌜ Among 0 14 r j 16 ⌝ }
-{
-    if s <= 16 {
-        return narrow(16, 14, s, r, a);
-    }
-    let j = below(0, 32, 14, 0, 471435600, r);
-    let t = middle(0, 16, j, 14, r);
-    half(0, 16, j, t, halves_low::lower_14(t), 14, r)
-}
-
-fn below_14(s: u64, r: u64, a: u64) -> u64
-    requires { ⌜ Sought 64 14 s r a × (r < 471435600) ⌝ }
-    ensures { λ j. ⌜ Among 0 14 r j 1 ⌝ }
-{
-    let j = within_16_14(s, r, a);
-    let t = middle(0, 8, j, 14, r);
-    let j = half(0, 8, j, t, halves_low::lower_14(t), 14, r);
-    let t = middle(0, 4, j, 14, r);
-    let j = half(0, 4, j, t, halves_low::lower_14(t), 14, r);
-    let t = middle(0, 2, j, 14, r);
-    let j = half(0, 2, j, t, halves_low::lower_14(t), 14, r);
-    let t = middle(0, 1, j, 14, r);
-    half(0, 1, j, t, halves_low::lower_14(t), 14, r)
-}
-
-pub fn from_14(s: u64, r: u64, a: u64) -> u64
-    requires { ⌜ Sought 64 14 s r a ⌝ }
+fn below_16_14(r: u64, a: u64) -> u64
+    requires { ⌜ Sought 64 14 16 r a ⌝ }
     ensures { λ x. ⌜ x ≡ a + value 14 r ⌝ }
 {
-    if 471435600 <= r {
-        let j = above_14(s, r, a);
-        let t = 32 + j;
-        let c = halves_low::upper_14(t);
-        let x = with(32, j, t, c, 14, s, r, a);
-        return from_13(t, r - c, x);
-    }
-    let j = below_14(s, r, a);
-    let t = 0 + j;
+    let j = rows(12, 4, 0, 14, 16, r, a);
+    let t = middle(12, 2, j, 14, r);
+    let j = half(12, 2, j, t, halves_low::lower_14(t), 14, r);
+    let t = middle(12, 1, j, 14, r);
+    let j = half(12, 1, j, t, halves_low::lower_14(t), 14, r);
+    let t = 12 + j;
     let c = halves_low::lower_14(t);
-    let x = with(0, j, t, c, 14, s, r, a);
-    from_13(t, r - c, x)
+    let x = with(12, j, t, c, 14, 16, r, a);
+    below_16_13(r - c, x)
 }
 
-fn above_15(s: u64, r: u64, a: u64) -> u64
-    requires { ⌜ Sought 64 15 s r a × (565722720 ≤ r) ⌝ }
-    ensures { λ j. ⌜ Among 32 15 r j 1 ⌝ }
-{
-    let j = above(15, 565722720, s, r, a);
-    let t = middle(32, 16, j, 15, r);
-    let j = half(32, 16, j, t, halves_low::upper_15(t), 15, r);
-    let t = middle(32, 8, j, 15, r);
-    let j = half(32, 8, j, t, halves_low::upper_15(t), 15, r);
-    let t = middle(32, 4, j, 15, r);
-    let j = half(32, 4, j, t, halves_low::upper_15(t), 15, r);
-    let t = middle(32, 2, j, 15, r);
-    let j = half(32, 2, j, t, halves_low::upper_15(t), 15, r);
-    let t = middle(32, 1, j, 15, r);
-    half(32, 1, j, t, halves_low::upper_15(t), 15, r)
-}
-
-fn within_16_15(s: u64, r: u64, a: u64) -> u64
-    requires { ⌜ Sought 64 15 s r a × (r < 565722720) ⌝ }
-    ensures { λ j. ⌜ Among 0 15 r j 16 ⌝ }
-{
-    if s <= 16 {
-        return narrow(16, 15, s, r, a);
-    }
-    let j = below(0, 32, 15, 0, 565722720, r);
-    let t = middle(0, 16, j, 15, r);
-    half(0, 16, j, t, halves_low::lower_15(t), 15, r)
-}
-
-fn below_15(s: u64, r: u64, a: u64) -> u64
-    requires { ⌜ Sought 64 15 s r a × (r < 565722720) ⌝ }
-    ensures { λ j. ⌜ Among 0 15 r j 1 ⌝ }
-{
-    let j = within_16_15(s, r, a);
-    let t = middle(0, 8, j, 15, r);
-    let j = half(0, 8, j, t, halves_low::lower_15(t), 15, r);
-    let t = middle(0, 4, j, 15, r);
-    let j = half(0, 4, j, t, halves_low::lower_15(t), 15, r);
-    let t = middle(0, 2, j, 15, r);
-    let j = half(0, 2, j, t, halves_low::lower_15(t), 15, r);
-    let t = middle(0, 1, j, 15, r);
-    half(0, 1, j, t, halves_low::lower_15(t), 15, r)
-}
-
-pub fn from_15(s: u64, r: u64, a: u64) -> u64
-    requires { ⌜ Sought 64 15 s r a ⌝ }
+fn below_16_15(r: u64, a: u64) -> u64
+    requires { ⌜ Sought 64 15 16 r a ⌝ }
     ensures { λ x. ⌜ x ≡ a + value 15 r ⌝ }
 {
-    if 565722720 <= r {
-        let j = above_15(s, r, a);
-        let t = 32 + j;
-        let c = halves_low::upper_15(t);
-        let x = with(32, j, t, c, 15, s, r, a);
-        return from_14(t, r - c, x);
-    }
-    let j = below_15(s, r, a);
-    let t = 0 + j;
+    let j = rows(14, 2, 0, 15, 16, r, a);
+    let t = middle(14, 1, j, 15, r);
+    let j = half(14, 1, j, t, halves_low::lower_15(t), 15, r);
+    let t = 14 + j;
     let c = halves_low::lower_15(t);
-    let x = with(0, j, t, c, 15, s, r, a);
-    from_14(t, r - c, x)
+    let x = with(14, j, t, c, 15, 16, r, a);
+    below_16_14(r - c, x)
 }
 
-fn above_16(s: u64, r: u64, a: u64) -> u64
-    requires { ⌜ Sought 64 16 s r a × (601080390 ≤ r) ⌝ }
-    ensures { λ j. ⌜ Among 32 16 r j 1 ⌝ }
-{
-    let j = above(16, 601080390, s, r, a);
-    let t = middle(32, 16, j, 16, r);
-    let j = half(32, 16, j, t, halves_low::upper_16(t), 16, r);
-    let t = middle(32, 8, j, 16, r);
-    let j = half(32, 8, j, t, halves_low::upper_16(t), 16, r);
-    let t = middle(32, 4, j, 16, r);
-    let j = half(32, 4, j, t, halves_low::upper_16(t), 16, r);
-    let t = middle(32, 2, j, 16, r);
-    let j = half(32, 2, j, t, halves_low::upper_16(t), 16, r);
-    let t = middle(32, 1, j, 16, r);
-    half(32, 1, j, t, halves_low::upper_16(t), 16, r)
-}
-
-fn within_16_16(s: u64, r: u64, a: u64) -> u64
-    requires { ⌜ Sought 64 16 s r a × (r < 601080390) ⌝ }
-    ensures { λ j. ⌜ Among 0 16 r j 16 ⌝ }
-{
-    if s <= 16 {
-        return narrow(16, 16, s, r, a);
-    }
-    let j = below(0, 32, 16, 0, 601080390, r);
-    let t = middle(0, 16, j, 16, r);
-    half(0, 16, j, t, halves_low::lower_16(t), 16, r)
-}
-
-fn below_16(s: u64, r: u64, a: u64) -> u64
-    requires { ⌜ Sought 64 16 s r a × (r < 601080390) ⌝ }
-    ensures { λ j. ⌜ Among 0 16 r j 1 ⌝ }
-{
-    let j = within_16_16(s, r, a);
-    let t = middle(0, 8, j, 16, r);
-    let j = half(0, 8, j, t, halves_low::lower_16(t), 16, r);
-    let t = middle(0, 4, j, 16, r);
-    let j = half(0, 4, j, t, halves_low::lower_16(t), 16, r);
-    let t = middle(0, 2, j, 16, r);
-    let j = half(0, 2, j, t, halves_low::lower_16(t), 16, r);
-    let t = middle(0, 1, j, 16, r);
-    half(0, 1, j, t, halves_low::lower_16(t), 16, r)
-}
-
-pub fn from_16(s: u64, r: u64, a: u64) -> u64
-    requires { ⌜ Sought 64 16 s r a ⌝ }
+fn below_16_16(r: u64, a: u64) -> u64
+    requires { ⌜ Sought 64 16 16 r a ⌝ }
     ensures { λ x. ⌜ x ≡ a + value 16 r ⌝ }
 {
-    if 601080390 <= r {
-        let j = above_16(s, r, a);
-        let t = 32 + j;
-        let c = halves_low::upper_16(t);
-        let x = with(32, j, t, c, 16, s, r, a);
-        return from_15(t, r - c, x);
-    }
-    let j = below_16(s, r, a);
-    let t = 0 + j;
+    let j = rows(15, 1, 0, 16, 16, r, a);
+    let t = 15 + j;
     let c = halves_low::lower_16(t);
-    let x = with(0, j, t, c, 16, s, r, a);
-    from_15(t, r - c, x)
+    let x = with(15, j, t, c, 16, 16, r, a);
+    below_16_15(r - c, x)
 }
 
-fn above_17(s: u64, r: u64, a: u64) -> u64
-    requires { ⌜ Sought 64 17 s r a × (565722720 ≤ r) ⌝ }
-    ensures { λ j. ⌜ Among 32 17 r j 1 ⌝ }
+fn below_32_2(r: u64, a: u64) -> u64
+    requires { ⌜ Sought 64 2 32 r a ⌝ }
+    ensures { λ x. ⌜ x ≡ a + value 2 r ⌝ }
 {
-    let j = above(17, 565722720, s, r, a);
-    let t = middle(32, 16, j, 17, r);
-    let j = half(32, 16, j, t, halves_high::upper_17(t), 17, r);
-    let t = middle(32, 8, j, 17, r);
-    let j = half(32, 8, j, t, halves_high::upper_17(t), 17, r);
-    let t = middle(32, 4, j, 17, r);
-    let j = half(32, 4, j, t, halves_high::upper_17(t), 17, r);
-    let t = middle(32, 2, j, 17, r);
-    let j = half(32, 2, j, t, halves_high::upper_17(t), 17, r);
-    let t = middle(32, 1, j, 17, r);
-    half(32, 1, j, t, halves_high::upper_17(t), 17, r)
+    if r < 120 {
+        return below_16_2(r, below(16, 120, 2, 32, r, a));
+    }
+    let j = rows(16, 16, 120, 2, 32, r, a);
+    let t = middle(16, 8, j, 2, r);
+    let j = half(16, 8, j, t, halves_low::lower_2(t), 2, r);
+    let t = middle(16, 4, j, 2, r);
+    let j = half(16, 4, j, t, halves_low::lower_2(t), 2, r);
+    let t = middle(16, 2, j, 2, r);
+    let j = half(16, 2, j, t, halves_low::lower_2(t), 2, r);
+    let t = middle(16, 1, j, 2, r);
+    let j = half(16, 1, j, t, halves_low::lower_2(t), 2, r);
+    let t = 16 + j;
+    let c = halves_low::lower_2(t);
+    let x = with(16, j, t, c, 2, 32, r, a);
+    last(32, r - c, x)
 }
 
-fn below_17(s: u64, r: u64, a: u64) -> u64
-    requires { ⌜ Sought 64 17 s r a × (r < 565722720) ⌝ }
-    ensures { λ j. ⌜ Among 16 17 r j 1 ⌝ }
+fn below_32_3(r: u64, a: u64) -> u64
+    requires { ⌜ Sought 64 3 32 r a ⌝ }
+    ensures { λ x. ⌜ x ≡ a + value 3 r ⌝ }
 {
-    let j = below(16, 16, 17, 0, 565722720, r);
+    if r < 560 {
+        return below_16_3(r, below(16, 560, 3, 32, r, a));
+    }
+    let j = rows(16, 16, 560, 3, 32, r, a);
+    let t = middle(16, 8, j, 3, r);
+    let j = half(16, 8, j, t, halves_low::lower_3(t), 3, r);
+    let t = middle(16, 4, j, 3, r);
+    let j = half(16, 4, j, t, halves_low::lower_3(t), 3, r);
+    let t = middle(16, 2, j, 3, r);
+    let j = half(16, 2, j, t, halves_low::lower_3(t), 3, r);
+    let t = middle(16, 1, j, 3, r);
+    let j = half(16, 1, j, t, halves_low::lower_3(t), 3, r);
+    let t = 16 + j;
+    let c = halves_low::lower_3(t);
+    let x = with(16, j, t, c, 3, 32, r, a);
+    below_32_2(r - c, x)
+}
+
+fn below_32_4(r: u64, a: u64) -> u64
+    requires { ⌜ Sought 64 4 32 r a ⌝ }
+    ensures { λ x. ⌜ x ≡ a + value 4 r ⌝ }
+{
+    if r < 1820 {
+        return below_16_4(r, below(16, 1820, 4, 32, r, a));
+    }
+    let j = rows(16, 16, 1820, 4, 32, r, a);
+    let t = middle(16, 8, j, 4, r);
+    let j = half(16, 8, j, t, halves_low::lower_4(t), 4, r);
+    let t = middle(16, 4, j, 4, r);
+    let j = half(16, 4, j, t, halves_low::lower_4(t), 4, r);
+    let t = middle(16, 2, j, 4, r);
+    let j = half(16, 2, j, t, halves_low::lower_4(t), 4, r);
+    let t = middle(16, 1, j, 4, r);
+    let j = half(16, 1, j, t, halves_low::lower_4(t), 4, r);
+    let t = 16 + j;
+    let c = halves_low::lower_4(t);
+    let x = with(16, j, t, c, 4, 32, r, a);
+    below_32_3(r - c, x)
+}
+
+fn below_32_5(r: u64, a: u64) -> u64
+    requires { ⌜ Sought 64 5 32 r a ⌝ }
+    ensures { λ x. ⌜ x ≡ a + value 5 r ⌝ }
+{
+    if r < 4368 {
+        return below_16_5(r, below(16, 4368, 5, 32, r, a));
+    }
+    let j = rows(16, 16, 4368, 5, 32, r, a);
+    let t = middle(16, 8, j, 5, r);
+    let j = half(16, 8, j, t, halves_low::lower_5(t), 5, r);
+    let t = middle(16, 4, j, 5, r);
+    let j = half(16, 4, j, t, halves_low::lower_5(t), 5, r);
+    let t = middle(16, 2, j, 5, r);
+    let j = half(16, 2, j, t, halves_low::lower_5(t), 5, r);
+    let t = middle(16, 1, j, 5, r);
+    let j = half(16, 1, j, t, halves_low::lower_5(t), 5, r);
+    let t = 16 + j;
+    let c = halves_low::lower_5(t);
+    let x = with(16, j, t, c, 5, 32, r, a);
+    below_32_4(r - c, x)
+}
+
+fn below_32_6(r: u64, a: u64) -> u64
+    requires { ⌜ Sought 64 6 32 r a ⌝ }
+    ensures { λ x. ⌜ x ≡ a + value 6 r ⌝ }
+{
+    if r < 8008 {
+        return below_16_6(r, below(16, 8008, 6, 32, r, a));
+    }
+    let j = rows(16, 16, 8008, 6, 32, r, a);
+    let t = middle(16, 8, j, 6, r);
+    let j = half(16, 8, j, t, halves_low::lower_6(t), 6, r);
+    let t = middle(16, 4, j, 6, r);
+    let j = half(16, 4, j, t, halves_low::lower_6(t), 6, r);
+    let t = middle(16, 2, j, 6, r);
+    let j = half(16, 2, j, t, halves_low::lower_6(t), 6, r);
+    let t = middle(16, 1, j, 6, r);
+    let j = half(16, 1, j, t, halves_low::lower_6(t), 6, r);
+    let t = 16 + j;
+    let c = halves_low::lower_6(t);
+    let x = with(16, j, t, c, 6, 32, r, a);
+    below_32_5(r - c, x)
+}
+
+fn below_32_7(r: u64, a: u64) -> u64
+    requires { ⌜ Sought 64 7 32 r a ⌝ }
+    ensures { λ x. ⌜ x ≡ a + value 7 r ⌝ }
+{
+    if r < 11440 {
+        return below_16_7(r, below(16, 11440, 7, 32, r, a));
+    }
+    let j = rows(16, 16, 11440, 7, 32, r, a);
+    let t = middle(16, 8, j, 7, r);
+    let j = half(16, 8, j, t, halves_low::lower_7(t), 7, r);
+    let t = middle(16, 4, j, 7, r);
+    let j = half(16, 4, j, t, halves_low::lower_7(t), 7, r);
+    let t = middle(16, 2, j, 7, r);
+    let j = half(16, 2, j, t, halves_low::lower_7(t), 7, r);
+    let t = middle(16, 1, j, 7, r);
+    let j = half(16, 1, j, t, halves_low::lower_7(t), 7, r);
+    let t = 16 + j;
+    let c = halves_low::lower_7(t);
+    let x = with(16, j, t, c, 7, 32, r, a);
+    below_32_6(r - c, x)
+}
+
+fn below_32_8(r: u64, a: u64) -> u64
+    requires { ⌜ Sought 64 8 32 r a ⌝ }
+    ensures { λ x. ⌜ x ≡ a + value 8 r ⌝ }
+{
+    if r < 12870 {
+        return below_16_8(r, below(16, 12870, 8, 32, r, a));
+    }
+    let j = rows(16, 16, 12870, 8, 32, r, a);
+    let t = middle(16, 8, j, 8, r);
+    let j = half(16, 8, j, t, halves_low::lower_8(t), 8, r);
+    let t = middle(16, 4, j, 8, r);
+    let j = half(16, 4, j, t, halves_low::lower_8(t), 8, r);
+    let t = middle(16, 2, j, 8, r);
+    let j = half(16, 2, j, t, halves_low::lower_8(t), 8, r);
+    let t = middle(16, 1, j, 8, r);
+    let j = half(16, 1, j, t, halves_low::lower_8(t), 8, r);
+    let t = 16 + j;
+    let c = halves_low::lower_8(t);
+    let x = with(16, j, t, c, 8, 32, r, a);
+    below_32_7(r - c, x)
+}
+
+fn below_32_9(r: u64, a: u64) -> u64
+    requires { ⌜ Sought 64 9 32 r a ⌝ }
+    ensures { λ x. ⌜ x ≡ a + value 9 r ⌝ }
+{
+    if r < 11440 {
+        return below_16_9(r, below(16, 11440, 9, 32, r, a));
+    }
+    let j = rows(16, 16, 11440, 9, 32, r, a);
+    let t = middle(16, 8, j, 9, r);
+    let j = half(16, 8, j, t, halves_low::lower_9(t), 9, r);
+    let t = middle(16, 4, j, 9, r);
+    let j = half(16, 4, j, t, halves_low::lower_9(t), 9, r);
+    let t = middle(16, 2, j, 9, r);
+    let j = half(16, 2, j, t, halves_low::lower_9(t), 9, r);
+    let t = middle(16, 1, j, 9, r);
+    let j = half(16, 1, j, t, halves_low::lower_9(t), 9, r);
+    let t = 16 + j;
+    let c = halves_low::lower_9(t);
+    let x = with(16, j, t, c, 9, 32, r, a);
+    below_32_8(r - c, x)
+}
+
+fn below_32_10(r: u64, a: u64) -> u64
+    requires { ⌜ Sought 64 10 32 r a ⌝ }
+    ensures { λ x. ⌜ x ≡ a + value 10 r ⌝ }
+{
+    if r < 8008 {
+        return below_16_10(r, below(16, 8008, 10, 32, r, a));
+    }
+    let j = rows(16, 16, 8008, 10, 32, r, a);
+    let t = middle(16, 8, j, 10, r);
+    let j = half(16, 8, j, t, halves_low::lower_10(t), 10, r);
+    let t = middle(16, 4, j, 10, r);
+    let j = half(16, 4, j, t, halves_low::lower_10(t), 10, r);
+    let t = middle(16, 2, j, 10, r);
+    let j = half(16, 2, j, t, halves_low::lower_10(t), 10, r);
+    let t = middle(16, 1, j, 10, r);
+    let j = half(16, 1, j, t, halves_low::lower_10(t), 10, r);
+    let t = 16 + j;
+    let c = halves_low::lower_10(t);
+    let x = with(16, j, t, c, 10, 32, r, a);
+    below_32_9(r - c, x)
+}
+
+fn below_32_11(r: u64, a: u64) -> u64
+    requires { ⌜ Sought 64 11 32 r a ⌝ }
+    ensures { λ x. ⌜ x ≡ a + value 11 r ⌝ }
+{
+    if r < 4368 {
+        return below_16_11(r, below(16, 4368, 11, 32, r, a));
+    }
+    let j = rows(16, 16, 4368, 11, 32, r, a);
+    let t = middle(16, 8, j, 11, r);
+    let j = half(16, 8, j, t, halves_low::lower_11(t), 11, r);
+    let t = middle(16, 4, j, 11, r);
+    let j = half(16, 4, j, t, halves_low::lower_11(t), 11, r);
+    let t = middle(16, 2, j, 11, r);
+    let j = half(16, 2, j, t, halves_low::lower_11(t), 11, r);
+    let t = middle(16, 1, j, 11, r);
+    let j = half(16, 1, j, t, halves_low::lower_11(t), 11, r);
+    let t = 16 + j;
+    let c = halves_low::lower_11(t);
+    let x = with(16, j, t, c, 11, 32, r, a);
+    below_32_10(r - c, x)
+}
+
+fn below_32_12(r: u64, a: u64) -> u64
+    requires { ⌜ Sought 64 12 32 r a ⌝ }
+    ensures { λ x. ⌜ x ≡ a + value 12 r ⌝ }
+{
+    if r < 1820 {
+        return below_16_12(r, below(16, 1820, 12, 32, r, a));
+    }
+    let j = rows(16, 16, 1820, 12, 32, r, a);
+    let t = middle(16, 8, j, 12, r);
+    let j = half(16, 8, j, t, halves_low::lower_12(t), 12, r);
+    let t = middle(16, 4, j, 12, r);
+    let j = half(16, 4, j, t, halves_low::lower_12(t), 12, r);
+    let t = middle(16, 2, j, 12, r);
+    let j = half(16, 2, j, t, halves_low::lower_12(t), 12, r);
+    let t = middle(16, 1, j, 12, r);
+    let j = half(16, 1, j, t, halves_low::lower_12(t), 12, r);
+    let t = 16 + j;
+    let c = halves_low::lower_12(t);
+    let x = with(16, j, t, c, 12, 32, r, a);
+    below_32_11(r - c, x)
+}
+
+fn below_32_13(r: u64, a: u64) -> u64
+    requires { ⌜ Sought 64 13 32 r a ⌝ }
+    ensures { λ x. ⌜ x ≡ a + value 13 r ⌝ }
+{
+    if r < 560 {
+        return below_16_13(r, below(16, 560, 13, 32, r, a));
+    }
+    let j = rows(16, 16, 560, 13, 32, r, a);
+    let t = middle(16, 8, j, 13, r);
+    let j = half(16, 8, j, t, halves_low::lower_13(t), 13, r);
+    let t = middle(16, 4, j, 13, r);
+    let j = half(16, 4, j, t, halves_low::lower_13(t), 13, r);
+    let t = middle(16, 2, j, 13, r);
+    let j = half(16, 2, j, t, halves_low::lower_13(t), 13, r);
+    let t = middle(16, 1, j, 13, r);
+    let j = half(16, 1, j, t, halves_low::lower_13(t), 13, r);
+    let t = 16 + j;
+    let c = halves_low::lower_13(t);
+    let x = with(16, j, t, c, 13, 32, r, a);
+    below_32_12(r - c, x)
+}
+
+fn below_32_14(r: u64, a: u64) -> u64
+    requires { ⌜ Sought 64 14 32 r a ⌝ }
+    ensures { λ x. ⌜ x ≡ a + value 14 r ⌝ }
+{
+    if r < 120 {
+        return below_16_14(r, below(16, 120, 14, 32, r, a));
+    }
+    let j = rows(16, 16, 120, 14, 32, r, a);
+    let t = middle(16, 8, j, 14, r);
+    let j = half(16, 8, j, t, halves_low::lower_14(t), 14, r);
+    let t = middle(16, 4, j, 14, r);
+    let j = half(16, 4, j, t, halves_low::lower_14(t), 14, r);
+    let t = middle(16, 2, j, 14, r);
+    let j = half(16, 2, j, t, halves_low::lower_14(t), 14, r);
+    let t = middle(16, 1, j, 14, r);
+    let j = half(16, 1, j, t, halves_low::lower_14(t), 14, r);
+    let t = 16 + j;
+    let c = halves_low::lower_14(t);
+    let x = with(16, j, t, c, 14, 32, r, a);
+    below_32_13(r - c, x)
+}
+
+fn below_32_15(r: u64, a: u64) -> u64
+    requires { ⌜ Sought 64 15 32 r a ⌝ }
+    ensures { λ x. ⌜ x ≡ a + value 15 r ⌝ }
+{
+    if r < 16 {
+        return below_16_15(r, below(16, 16, 15, 32, r, a));
+    }
+    let j = rows(16, 16, 16, 15, 32, r, a);
+    let t = middle(16, 8, j, 15, r);
+    let j = half(16, 8, j, t, halves_low::lower_15(t), 15, r);
+    let t = middle(16, 4, j, 15, r);
+    let j = half(16, 4, j, t, halves_low::lower_15(t), 15, r);
+    let t = middle(16, 2, j, 15, r);
+    let j = half(16, 2, j, t, halves_low::lower_15(t), 15, r);
+    let t = middle(16, 1, j, 15, r);
+    let j = half(16, 1, j, t, halves_low::lower_15(t), 15, r);
+    let t = 16 + j;
+    let c = halves_low::lower_15(t);
+    let x = with(16, j, t, c, 15, 32, r, a);
+    below_32_14(r - c, x)
+}
+
+fn below_32_16(r: u64, a: u64) -> u64
+    requires { ⌜ Sought 64 16 32 r a ⌝ }
+    ensures { λ x. ⌜ x ≡ a + value 16 r ⌝ }
+{
+    if r < 1 {
+        return below_16_16(r, below(16, 1, 16, 32, r, a));
+    }
+    let j = rows(16, 16, 1, 16, 32, r, a);
+    let t = middle(16, 8, j, 16, r);
+    let j = half(16, 8, j, t, halves_low::lower_16(t), 16, r);
+    let t = middle(16, 4, j, 16, r);
+    let j = half(16, 4, j, t, halves_low::lower_16(t), 16, r);
+    let t = middle(16, 2, j, 16, r);
+    let j = half(16, 2, j, t, halves_low::lower_16(t), 16, r);
+    let t = middle(16, 1, j, 16, r);
+    let j = half(16, 1, j, t, halves_low::lower_16(t), 16, r);
+    let t = 16 + j;
+    let c = halves_low::lower_16(t);
+    let x = with(16, j, t, c, 16, 32, r, a);
+    below_32_15(r - c, x)
+}
+
+fn below_32_17(r: u64, a: u64) -> u64
+    requires { ⌜ Sought 64 17 32 r a ⌝ }
+    ensures { λ x. ⌜ x ≡ a + value 17 r ⌝ }
+{
+    let j = rows(16, 16, 0, 17, 32, r, a);
     let t = middle(16, 8, j, 17, r);
     let j = half(16, 8, j, t, halves_high::lower_17(t), 17, r);
     let t = middle(16, 4, j, 17, r);
@@ -1045,49 +725,18 @@ fn below_17(s: u64, r: u64, a: u64) -> u64
     let t = middle(16, 2, j, 17, r);
     let j = half(16, 2, j, t, halves_high::lower_17(t), 17, r);
     let t = middle(16, 1, j, 17, r);
-    half(16, 1, j, t, halves_high::lower_17(t), 17, r)
-}
-
-pub fn from_17(s: u64, r: u64, a: u64) -> u64
-    requires { ⌜ Sought 64 17 s r a ⌝ }
-    ensures { λ x. ⌜ x ≡ a + value 17 r ⌝ }
-{
-    if 565722720 <= r {
-        let j = above_17(s, r, a);
-        let t = 32 + j;
-        let c = halves_high::upper_17(t);
-        let x = with(32, j, t, c, 17, s, r, a);
-        return from_16(t, r - c, x);
-    }
-    let j = below_17(s, r, a);
+    let j = half(16, 1, j, t, halves_high::lower_17(t), 17, r);
     let t = 16 + j;
     let c = halves_high::lower_17(t);
-    let x = with(16, j, t, c, 17, s, r, a);
-    from_16(t, r - c, x)
+    let x = with(16, j, t, c, 17, 32, r, a);
+    below_32_16(r - c, x)
 }
 
-fn above_18(s: u64, r: u64, a: u64) -> u64
-    requires { ⌜ Sought 64 18 s r a × (471435600 ≤ r) ⌝ }
-    ensures { λ j. ⌜ Among 32 18 r j 1 ⌝ }
+fn below_32_18(r: u64, a: u64) -> u64
+    requires { ⌜ Sought 64 18 32 r a ⌝ }
+    ensures { λ x. ⌜ x ≡ a + value 18 r ⌝ }
 {
-    let j = above(18, 471435600, s, r, a);
-    let t = middle(32, 16, j, 18, r);
-    let j = half(32, 16, j, t, halves_high::upper_18(t), 18, r);
-    let t = middle(32, 8, j, 18, r);
-    let j = half(32, 8, j, t, halves_high::upper_18(t), 18, r);
-    let t = middle(32, 4, j, 18, r);
-    let j = half(32, 4, j, t, halves_high::upper_18(t), 18, r);
-    let t = middle(32, 2, j, 18, r);
-    let j = half(32, 2, j, t, halves_high::upper_18(t), 18, r);
-    let t = middle(32, 1, j, 18, r);
-    half(32, 1, j, t, halves_high::upper_18(t), 18, r)
-}
-
-fn below_18(s: u64, r: u64, a: u64) -> u64
-    requires { ⌜ Sought 64 18 s r a × (r < 471435600) ⌝ }
-    ensures { λ j. ⌜ Among 16 18 r j 1 ⌝ }
-{
-    let j = below(16, 16, 18, 0, 471435600, r);
+    let j = rows(16, 16, 0, 18, 32, r, a);
     let t = middle(16, 8, j, 18, r);
     let j = half(16, 8, j, t, halves_high::lower_18(t), 18, r);
     let t = middle(16, 4, j, 18, r);
@@ -1095,49 +744,18 @@ fn below_18(s: u64, r: u64, a: u64) -> u64
     let t = middle(16, 2, j, 18, r);
     let j = half(16, 2, j, t, halves_high::lower_18(t), 18, r);
     let t = middle(16, 1, j, 18, r);
-    half(16, 1, j, t, halves_high::lower_18(t), 18, r)
-}
-
-pub fn from_18(s: u64, r: u64, a: u64) -> u64
-    requires { ⌜ Sought 64 18 s r a ⌝ }
-    ensures { λ x. ⌜ x ≡ a + value 18 r ⌝ }
-{
-    if 471435600 <= r {
-        let j = above_18(s, r, a);
-        let t = 32 + j;
-        let c = halves_high::upper_18(t);
-        let x = with(32, j, t, c, 18, s, r, a);
-        return from_17(t, r - c, x);
-    }
-    let j = below_18(s, r, a);
+    let j = half(16, 1, j, t, halves_high::lower_18(t), 18, r);
     let t = 16 + j;
     let c = halves_high::lower_18(t);
-    let x = with(16, j, t, c, 18, s, r, a);
-    from_17(t, r - c, x)
+    let x = with(16, j, t, c, 18, 32, r, a);
+    below_32_17(r - c, x)
 }
 
-fn above_19(s: u64, r: u64, a: u64) -> u64
-    requires { ⌜ Sought 64 19 s r a × (347373600 ≤ r) ⌝ }
-    ensures { λ j. ⌜ Among 32 19 r j 1 ⌝ }
+fn below_32_19(r: u64, a: u64) -> u64
+    requires { ⌜ Sought 64 19 32 r a ⌝ }
+    ensures { λ x. ⌜ x ≡ a + value 19 r ⌝ }
 {
-    let j = above(19, 347373600, s, r, a);
-    let t = middle(32, 16, j, 19, r);
-    let j = half(32, 16, j, t, halves_high::upper_19(t), 19, r);
-    let t = middle(32, 8, j, 19, r);
-    let j = half(32, 8, j, t, halves_high::upper_19(t), 19, r);
-    let t = middle(32, 4, j, 19, r);
-    let j = half(32, 4, j, t, halves_high::upper_19(t), 19, r);
-    let t = middle(32, 2, j, 19, r);
-    let j = half(32, 2, j, t, halves_high::upper_19(t), 19, r);
-    let t = middle(32, 1, j, 19, r);
-    half(32, 1, j, t, halves_high::upper_19(t), 19, r)
-}
-
-fn below_19(s: u64, r: u64, a: u64) -> u64
-    requires { ⌜ Sought 64 19 s r a × (r < 347373600) ⌝ }
-    ensures { λ j. ⌜ Among 16 19 r j 1 ⌝ }
-{
-    let j = below(16, 16, 19, 0, 347373600, r);
+    let j = rows(16, 16, 0, 19, 32, r, a);
     let t = middle(16, 8, j, 19, r);
     let j = half(16, 8, j, t, halves_high::lower_19(t), 19, r);
     let t = middle(16, 4, j, 19, r);
@@ -1145,49 +763,18 @@ fn below_19(s: u64, r: u64, a: u64) -> u64
     let t = middle(16, 2, j, 19, r);
     let j = half(16, 2, j, t, halves_high::lower_19(t), 19, r);
     let t = middle(16, 1, j, 19, r);
-    half(16, 1, j, t, halves_high::lower_19(t), 19, r)
-}
-
-pub fn from_19(s: u64, r: u64, a: u64) -> u64
-    requires { ⌜ Sought 64 19 s r a ⌝ }
-    ensures { λ x. ⌜ x ≡ a + value 19 r ⌝ }
-{
-    if 347373600 <= r {
-        let j = above_19(s, r, a);
-        let t = 32 + j;
-        let c = halves_high::upper_19(t);
-        let x = with(32, j, t, c, 19, s, r, a);
-        return from_18(t, r - c, x);
-    }
-    let j = below_19(s, r, a);
+    let j = half(16, 1, j, t, halves_high::lower_19(t), 19, r);
     let t = 16 + j;
     let c = halves_high::lower_19(t);
-    let x = with(16, j, t, c, 19, s, r, a);
-    from_18(t, r - c, x)
+    let x = with(16, j, t, c, 19, 32, r, a);
+    below_32_18(r - c, x)
 }
 
-fn above_20(s: u64, r: u64, a: u64) -> u64
-    requires { ⌜ Sought 64 20 s r a × (225792840 ≤ r) ⌝ }
-    ensures { λ j. ⌜ Among 32 20 r j 1 ⌝ }
+fn below_32_20(r: u64, a: u64) -> u64
+    requires { ⌜ Sought 64 20 32 r a ⌝ }
+    ensures { λ x. ⌜ x ≡ a + value 20 r ⌝ }
 {
-    let j = above(20, 225792840, s, r, a);
-    let t = middle(32, 16, j, 20, r);
-    let j = half(32, 16, j, t, halves_high::upper_20(t), 20, r);
-    let t = middle(32, 8, j, 20, r);
-    let j = half(32, 8, j, t, halves_high::upper_20(t), 20, r);
-    let t = middle(32, 4, j, 20, r);
-    let j = half(32, 4, j, t, halves_high::upper_20(t), 20, r);
-    let t = middle(32, 2, j, 20, r);
-    let j = half(32, 2, j, t, halves_high::upper_20(t), 20, r);
-    let t = middle(32, 1, j, 20, r);
-    half(32, 1, j, t, halves_high::upper_20(t), 20, r)
-}
-
-fn below_20(s: u64, r: u64, a: u64) -> u64
-    requires { ⌜ Sought 64 20 s r a × (r < 225792840) ⌝ }
-    ensures { λ j. ⌜ Among 16 20 r j 1 ⌝ }
-{
-    let j = below(16, 16, 20, 0, 225792840, r);
+    let j = rows(16, 16, 0, 20, 32, r, a);
     let t = middle(16, 8, j, 20, r);
     let j = half(16, 8, j, t, halves_high::lower_20(t), 20, r);
     let t = middle(16, 4, j, 20, r);
@@ -1195,49 +782,18 @@ fn below_20(s: u64, r: u64, a: u64) -> u64
     let t = middle(16, 2, j, 20, r);
     let j = half(16, 2, j, t, halves_high::lower_20(t), 20, r);
     let t = middle(16, 1, j, 20, r);
-    half(16, 1, j, t, halves_high::lower_20(t), 20, r)
-}
-
-pub fn from_20(s: u64, r: u64, a: u64) -> u64
-    requires { ⌜ Sought 64 20 s r a ⌝ }
-    ensures { λ x. ⌜ x ≡ a + value 20 r ⌝ }
-{
-    if 225792840 <= r {
-        let j = above_20(s, r, a);
-        let t = 32 + j;
-        let c = halves_high::upper_20(t);
-        let x = with(32, j, t, c, 20, s, r, a);
-        return from_19(t, r - c, x);
-    }
-    let j = below_20(s, r, a);
+    let j = half(16, 1, j, t, halves_high::lower_20(t), 20, r);
     let t = 16 + j;
     let c = halves_high::lower_20(t);
-    let x = with(16, j, t, c, 20, s, r, a);
-    from_19(t, r - c, x)
+    let x = with(16, j, t, c, 20, 32, r, a);
+    below_32_19(r - c, x)
 }
 
-fn above_21(s: u64, r: u64, a: u64) -> u64
-    requires { ⌜ Sought 64 21 s r a × (129024480 ≤ r) ⌝ }
-    ensures { λ j. ⌜ Among 32 21 r j 1 ⌝ }
+fn below_32_21(r: u64, a: u64) -> u64
+    requires { ⌜ Sought 64 21 32 r a ⌝ }
+    ensures { λ x. ⌜ x ≡ a + value 21 r ⌝ }
 {
-    let j = above(21, 129024480, s, r, a);
-    let t = middle(32, 16, j, 21, r);
-    let j = half(32, 16, j, t, halves_high::upper_21(t), 21, r);
-    let t = middle(32, 8, j, 21, r);
-    let j = half(32, 8, j, t, halves_high::upper_21(t), 21, r);
-    let t = middle(32, 4, j, 21, r);
-    let j = half(32, 4, j, t, halves_high::upper_21(t), 21, r);
-    let t = middle(32, 2, j, 21, r);
-    let j = half(32, 2, j, t, halves_high::upper_21(t), 21, r);
-    let t = middle(32, 1, j, 21, r);
-    half(32, 1, j, t, halves_high::upper_21(t), 21, r)
-}
-
-fn below_21(s: u64, r: u64, a: u64) -> u64
-    requires { ⌜ Sought 64 21 s r a × (r < 129024480) ⌝ }
-    ensures { λ j. ⌜ Among 16 21 r j 1 ⌝ }
-{
-    let j = below(16, 16, 21, 0, 129024480, r);
+    let j = rows(16, 16, 0, 21, 32, r, a);
     let t = middle(16, 8, j, 21, r);
     let j = half(16, 8, j, t, halves_high::lower_21(t), 21, r);
     let t = middle(16, 4, j, 21, r);
@@ -1245,49 +801,18 @@ fn below_21(s: u64, r: u64, a: u64) -> u64
     let t = middle(16, 2, j, 21, r);
     let j = half(16, 2, j, t, halves_high::lower_21(t), 21, r);
     let t = middle(16, 1, j, 21, r);
-    half(16, 1, j, t, halves_high::lower_21(t), 21, r)
-}
-
-pub fn from_21(s: u64, r: u64, a: u64) -> u64
-    requires { ⌜ Sought 64 21 s r a ⌝ }
-    ensures { λ x. ⌜ x ≡ a + value 21 r ⌝ }
-{
-    if 129024480 <= r {
-        let j = above_21(s, r, a);
-        let t = 32 + j;
-        let c = halves_high::upper_21(t);
-        let x = with(32, j, t, c, 21, s, r, a);
-        return from_20(t, r - c, x);
-    }
-    let j = below_21(s, r, a);
+    let j = half(16, 1, j, t, halves_high::lower_21(t), 21, r);
     let t = 16 + j;
     let c = halves_high::lower_21(t);
-    let x = with(16, j, t, c, 21, s, r, a);
-    from_20(t, r - c, x)
+    let x = with(16, j, t, c, 21, 32, r, a);
+    below_32_20(r - c, x)
 }
 
-fn above_22(s: u64, r: u64, a: u64) -> u64
-    requires { ⌜ Sought 64 22 s r a × (64512240 ≤ r) ⌝ }
-    ensures { λ j. ⌜ Among 32 22 r j 1 ⌝ }
+fn below_32_22(r: u64, a: u64) -> u64
+    requires { ⌜ Sought 64 22 32 r a ⌝ }
+    ensures { λ x. ⌜ x ≡ a + value 22 r ⌝ }
 {
-    let j = above(22, 64512240, s, r, a);
-    let t = middle(32, 16, j, 22, r);
-    let j = half(32, 16, j, t, halves_high::upper_22(t), 22, r);
-    let t = middle(32, 8, j, 22, r);
-    let j = half(32, 8, j, t, halves_high::upper_22(t), 22, r);
-    let t = middle(32, 4, j, 22, r);
-    let j = half(32, 4, j, t, halves_high::upper_22(t), 22, r);
-    let t = middle(32, 2, j, 22, r);
-    let j = half(32, 2, j, t, halves_high::upper_22(t), 22, r);
-    let t = middle(32, 1, j, 22, r);
-    half(32, 1, j, t, halves_high::upper_22(t), 22, r)
-}
-
-fn below_22(s: u64, r: u64, a: u64) -> u64
-    requires { ⌜ Sought 64 22 s r a × (r < 64512240) ⌝ }
-    ensures { λ j. ⌜ Among 16 22 r j 1 ⌝ }
-{
-    let j = below(16, 16, 22, 0, 64512240, r);
+    let j = rows(16, 16, 0, 22, 32, r, a);
     let t = middle(16, 8, j, 22, r);
     let j = half(16, 8, j, t, halves_high::lower_22(t), 22, r);
     let t = middle(16, 4, j, 22, r);
@@ -1295,49 +820,18 @@ fn below_22(s: u64, r: u64, a: u64) -> u64
     let t = middle(16, 2, j, 22, r);
     let j = half(16, 2, j, t, halves_high::lower_22(t), 22, r);
     let t = middle(16, 1, j, 22, r);
-    half(16, 1, j, t, halves_high::lower_22(t), 22, r)
-}
-
-pub fn from_22(s: u64, r: u64, a: u64) -> u64
-    requires { ⌜ Sought 64 22 s r a ⌝ }
-    ensures { λ x. ⌜ x ≡ a + value 22 r ⌝ }
-{
-    if 64512240 <= r {
-        let j = above_22(s, r, a);
-        let t = 32 + j;
-        let c = halves_high::upper_22(t);
-        let x = with(32, j, t, c, 22, s, r, a);
-        return from_21(t, r - c, x);
-    }
-    let j = below_22(s, r, a);
+    let j = half(16, 1, j, t, halves_high::lower_22(t), 22, r);
     let t = 16 + j;
     let c = halves_high::lower_22(t);
-    let x = with(16, j, t, c, 22, s, r, a);
-    from_21(t, r - c, x)
+    let x = with(16, j, t, c, 22, 32, r, a);
+    below_32_21(r - c, x)
 }
 
-fn above_23(s: u64, r: u64, a: u64) -> u64
-    requires { ⌜ Sought 64 23 s r a × (28048800 ≤ r) ⌝ }
-    ensures { λ j. ⌜ Among 32 23 r j 1 ⌝ }
+fn below_32_23(r: u64, a: u64) -> u64
+    requires { ⌜ Sought 64 23 32 r a ⌝ }
+    ensures { λ x. ⌜ x ≡ a + value 23 r ⌝ }
 {
-    let j = above(23, 28048800, s, r, a);
-    let t = middle(32, 16, j, 23, r);
-    let j = half(32, 16, j, t, halves_high::upper_23(t), 23, r);
-    let t = middle(32, 8, j, 23, r);
-    let j = half(32, 8, j, t, halves_high::upper_23(t), 23, r);
-    let t = middle(32, 4, j, 23, r);
-    let j = half(32, 4, j, t, halves_high::upper_23(t), 23, r);
-    let t = middle(32, 2, j, 23, r);
-    let j = half(32, 2, j, t, halves_high::upper_23(t), 23, r);
-    let t = middle(32, 1, j, 23, r);
-    half(32, 1, j, t, halves_high::upper_23(t), 23, r)
-}
-
-fn below_23(s: u64, r: u64, a: u64) -> u64
-    requires { ⌜ Sought 64 23 s r a × (r < 28048800) ⌝ }
-    ensures { λ j. ⌜ Among 16 23 r j 1 ⌝ }
-{
-    let j = below(16, 16, 23, 0, 28048800, r);
+    let j = rows(16, 16, 0, 23, 32, r, a);
     let t = middle(16, 8, j, 23, r);
     let j = half(16, 8, j, t, halves_high::lower_23(t), 23, r);
     let t = middle(16, 4, j, 23, r);
@@ -1345,49 +839,18 @@ fn below_23(s: u64, r: u64, a: u64) -> u64
     let t = middle(16, 2, j, 23, r);
     let j = half(16, 2, j, t, halves_high::lower_23(t), 23, r);
     let t = middle(16, 1, j, 23, r);
-    half(16, 1, j, t, halves_high::lower_23(t), 23, r)
-}
-
-pub fn from_23(s: u64, r: u64, a: u64) -> u64
-    requires { ⌜ Sought 64 23 s r a ⌝ }
-    ensures { λ x. ⌜ x ≡ a + value 23 r ⌝ }
-{
-    if 28048800 <= r {
-        let j = above_23(s, r, a);
-        let t = 32 + j;
-        let c = halves_high::upper_23(t);
-        let x = with(32, j, t, c, 23, s, r, a);
-        return from_22(t, r - c, x);
-    }
-    let j = below_23(s, r, a);
+    let j = half(16, 1, j, t, halves_high::lower_23(t), 23, r);
     let t = 16 + j;
     let c = halves_high::lower_23(t);
-    let x = with(16, j, t, c, 23, s, r, a);
-    from_22(t, r - c, x)
+    let x = with(16, j, t, c, 23, 32, r, a);
+    below_32_22(r - c, x)
 }
 
-fn above_24(s: u64, r: u64, a: u64) -> u64
-    requires { ⌜ Sought 64 24 s r a × (10518300 ≤ r) ⌝ }
-    ensures { λ j. ⌜ Among 32 24 r j 1 ⌝ }
+fn below_32_24(r: u64, a: u64) -> u64
+    requires { ⌜ Sought 64 24 32 r a ⌝ }
+    ensures { λ x. ⌜ x ≡ a + value 24 r ⌝ }
 {
-    let j = above(24, 10518300, s, r, a);
-    let t = middle(32, 16, j, 24, r);
-    let j = half(32, 16, j, t, halves_high::upper_24(t), 24, r);
-    let t = middle(32, 8, j, 24, r);
-    let j = half(32, 8, j, t, halves_high::upper_24(t), 24, r);
-    let t = middle(32, 4, j, 24, r);
-    let j = half(32, 4, j, t, halves_high::upper_24(t), 24, r);
-    let t = middle(32, 2, j, 24, r);
-    let j = half(32, 2, j, t, halves_high::upper_24(t), 24, r);
-    let t = middle(32, 1, j, 24, r);
-    half(32, 1, j, t, halves_high::upper_24(t), 24, r)
-}
-
-fn below_24(s: u64, r: u64, a: u64) -> u64
-    requires { ⌜ Sought 64 24 s r a × (r < 10518300) ⌝ }
-    ensures { λ j. ⌜ Among 16 24 r j 1 ⌝ }
-{
-    let j = below(16, 16, 24, 0, 10518300, r);
+    let j = rows(16, 16, 0, 24, 32, r, a);
     let t = middle(16, 8, j, 24, r);
     let j = half(16, 8, j, t, halves_high::lower_24(t), 24, r);
     let t = middle(16, 4, j, 24, r);
@@ -1395,34 +858,649 @@ fn below_24(s: u64, r: u64, a: u64) -> u64
     let t = middle(16, 2, j, 24, r);
     let j = half(16, 2, j, t, halves_high::lower_24(t), 24, r);
     let t = middle(16, 1, j, 24, r);
-    half(16, 1, j, t, halves_high::lower_24(t), 24, r)
-}
-
-pub fn from_24(s: u64, r: u64, a: u64) -> u64
-    requires { ⌜ Sought 64 24 s r a ⌝ }
-    ensures { λ x. ⌜ x ≡ a + value 24 r ⌝ }
-{
-    if 10518300 <= r {
-        let j = above_24(s, r, a);
-        let t = 32 + j;
-        let c = halves_high::upper_24(t);
-        let x = with(32, j, t, c, 24, s, r, a);
-        return from_23(t, r - c, x);
-    }
-    let j = below_24(s, r, a);
+    let j = half(16, 1, j, t, halves_high::lower_24(t), 24, r);
     let t = 16 + j;
     let c = halves_high::lower_24(t);
-    let x = with(16, j, t, c, 24, s, r, a);
-    from_23(t, r - c, x)
+    let x = with(16, j, t, c, 24, 32, r, a);
+    below_32_23(r - c, x)
 }
 
-fn above_25(s: u64, r: u64, a: u64) -> u64
-    requires { ⌜ Sought 64 25 s r a × (3365856 ≤ r) ⌝ }
-    ensures { λ j. ⌜ Among 32 25 r j 1 ⌝ }
+fn below_32_25(r: u64, a: u64) -> u64
+    requires { ⌜ Sought 64 25 32 r a ⌝ }
+    ensures { λ x. ⌜ x ≡ a + value 25 r ⌝ }
 {
-    let j = above(25, 3365856, s, r, a);
-    let t = middle(32, 16, j, 25, r);
-    let j = half(32, 16, j, t, halves_high::upper_25(t), 25, r);
+    let j = rows(24, 8, 0, 25, 32, r, a);
+    let t = middle(24, 4, j, 25, r);
+    let j = half(24, 4, j, t, halves_high::lower_25(t), 25, r);
+    let t = middle(24, 2, j, 25, r);
+    let j = half(24, 2, j, t, halves_high::lower_25(t), 25, r);
+    let t = middle(24, 1, j, 25, r);
+    let j = half(24, 1, j, t, halves_high::lower_25(t), 25, r);
+    let t = 24 + j;
+    let c = halves_high::lower_25(t);
+    let x = with(24, j, t, c, 25, 32, r, a);
+    below_32_24(r - c, x)
+}
+
+fn below_32_26(r: u64, a: u64) -> u64
+    requires { ⌜ Sought 64 26 32 r a ⌝ }
+    ensures { λ x. ⌜ x ≡ a + value 26 r ⌝ }
+{
+    let j = rows(24, 8, 0, 26, 32, r, a);
+    let t = middle(24, 4, j, 26, r);
+    let j = half(24, 4, j, t, halves_high::lower_26(t), 26, r);
+    let t = middle(24, 2, j, 26, r);
+    let j = half(24, 2, j, t, halves_high::lower_26(t), 26, r);
+    let t = middle(24, 1, j, 26, r);
+    let j = half(24, 1, j, t, halves_high::lower_26(t), 26, r);
+    let t = 24 + j;
+    let c = halves_high::lower_26(t);
+    let x = with(24, j, t, c, 26, 32, r, a);
+    below_32_25(r - c, x)
+}
+
+fn below_32_27(r: u64, a: u64) -> u64
+    requires { ⌜ Sought 64 27 32 r a ⌝ }
+    ensures { λ x. ⌜ x ≡ a + value 27 r ⌝ }
+{
+    let j = rows(24, 8, 0, 27, 32, r, a);
+    let t = middle(24, 4, j, 27, r);
+    let j = half(24, 4, j, t, halves_high::lower_27(t), 27, r);
+    let t = middle(24, 2, j, 27, r);
+    let j = half(24, 2, j, t, halves_high::lower_27(t), 27, r);
+    let t = middle(24, 1, j, 27, r);
+    let j = half(24, 1, j, t, halves_high::lower_27(t), 27, r);
+    let t = 24 + j;
+    let c = halves_high::lower_27(t);
+    let x = with(24, j, t, c, 27, 32, r, a);
+    below_32_26(r - c, x)
+}
+
+fn below_32_28(r: u64, a: u64) -> u64
+    requires { ⌜ Sought 64 28 32 r a ⌝ }
+    ensures { λ x. ⌜ x ≡ a + value 28 r ⌝ }
+{
+    let j = rows(24, 8, 0, 28, 32, r, a);
+    let t = middle(24, 4, j, 28, r);
+    let j = half(24, 4, j, t, halves_high::lower_28(t), 28, r);
+    let t = middle(24, 2, j, 28, r);
+    let j = half(24, 2, j, t, halves_high::lower_28(t), 28, r);
+    let t = middle(24, 1, j, 28, r);
+    let j = half(24, 1, j, t, halves_high::lower_28(t), 28, r);
+    let t = 24 + j;
+    let c = halves_high::lower_28(t);
+    let x = with(24, j, t, c, 28, 32, r, a);
+    below_32_27(r - c, x)
+}
+
+fn below_32_29(r: u64, a: u64) -> u64
+    requires { ⌜ Sought 64 29 32 r a ⌝ }
+    ensures { λ x. ⌜ x ≡ a + value 29 r ⌝ }
+{
+    let j = rows(28, 4, 0, 29, 32, r, a);
+    let t = middle(28, 2, j, 29, r);
+    let j = half(28, 2, j, t, halves_high::lower_29(t), 29, r);
+    let t = middle(28, 1, j, 29, r);
+    let j = half(28, 1, j, t, halves_high::lower_29(t), 29, r);
+    let t = 28 + j;
+    let c = halves_high::lower_29(t);
+    let x = with(28, j, t, c, 29, 32, r, a);
+    below_32_28(r - c, x)
+}
+
+fn below_32_30(r: u64, a: u64) -> u64
+    requires { ⌜ Sought 64 30 32 r a ⌝ }
+    ensures { λ x. ⌜ x ≡ a + value 30 r ⌝ }
+{
+    let j = rows(28, 4, 0, 30, 32, r, a);
+    let t = middle(28, 2, j, 30, r);
+    let j = half(28, 2, j, t, halves_high::lower_30(t), 30, r);
+    let t = middle(28, 1, j, 30, r);
+    let j = half(28, 1, j, t, halves_high::lower_30(t), 30, r);
+    let t = 28 + j;
+    let c = halves_high::lower_30(t);
+    let x = with(28, j, t, c, 30, 32, r, a);
+    below_32_29(r - c, x)
+}
+
+fn below_32_31(r: u64, a: u64) -> u64
+    requires { ⌜ Sought 64 31 32 r a ⌝ }
+    ensures { λ x. ⌜ x ≡ a + value 31 r ⌝ }
+{
+    let j = rows(30, 2, 0, 31, 32, r, a);
+    let t = middle(30, 1, j, 31, r);
+    let j = half(30, 1, j, t, halves_high::lower_31(t), 31, r);
+    let t = 30 + j;
+    let c = halves_high::lower_31(t);
+    let x = with(30, j, t, c, 31, 32, r, a);
+    below_32_30(r - c, x)
+}
+
+fn below_32_32(r: u64, a: u64) -> u64
+    requires { ⌜ Sought 64 32 32 r a ⌝ }
+    ensures { λ x. ⌜ x ≡ a + value 32 r ⌝ }
+{
+    let j = rows(31, 1, 0, 32, 32, r, a);
+    let t = 31 + j;
+    let c = halves_high::lower_32(t);
+    let x = with(31, j, t, c, 32, 32, r, a);
+    below_32_31(r - c, x)
+}
+
+fn below_48_2(r: u64, a: u64) -> u64
+    requires { ⌜ Sought 64 2 48 r a ⌝ }
+    ensures { λ x. ⌜ x ≡ a + value 2 r ⌝ }
+{
+    if r < 496 {
+        return below_32_2(r, below(32, 496, 2, 48, r, a));
+    }
+    let j = rows(32, 16, 496, 2, 48, r, a);
+    let t = middle(32, 8, j, 2, r);
+    let j = half(32, 8, j, t, halves_low::upper_2(t), 2, r);
+    let t = middle(32, 4, j, 2, r);
+    let j = half(32, 4, j, t, halves_low::upper_2(t), 2, r);
+    let t = middle(32, 2, j, 2, r);
+    let j = half(32, 2, j, t, halves_low::upper_2(t), 2, r);
+    let t = middle(32, 1, j, 2, r);
+    let j = half(32, 1, j, t, halves_low::upper_2(t), 2, r);
+    let t = 32 + j;
+    let c = halves_low::upper_2(t);
+    let x = with(32, j, t, c, 2, 48, r, a);
+    last(48, r - c, x)
+}
+
+fn below_48_3(r: u64, a: u64) -> u64
+    requires { ⌜ Sought 64 3 48 r a ⌝ }
+    ensures { λ x. ⌜ x ≡ a + value 3 r ⌝ }
+{
+    if r < 4960 {
+        return below_32_3(r, below(32, 4960, 3, 48, r, a));
+    }
+    let j = rows(32, 16, 4960, 3, 48, r, a);
+    let t = middle(32, 8, j, 3, r);
+    let j = half(32, 8, j, t, halves_low::upper_3(t), 3, r);
+    let t = middle(32, 4, j, 3, r);
+    let j = half(32, 4, j, t, halves_low::upper_3(t), 3, r);
+    let t = middle(32, 2, j, 3, r);
+    let j = half(32, 2, j, t, halves_low::upper_3(t), 3, r);
+    let t = middle(32, 1, j, 3, r);
+    let j = half(32, 1, j, t, halves_low::upper_3(t), 3, r);
+    let t = 32 + j;
+    let c = halves_low::upper_3(t);
+    let x = with(32, j, t, c, 3, 48, r, a);
+    below_48_2(r - c, x)
+}
+
+fn below_48_4(r: u64, a: u64) -> u64
+    requires { ⌜ Sought 64 4 48 r a ⌝ }
+    ensures { λ x. ⌜ x ≡ a + value 4 r ⌝ }
+{
+    if r < 35960 {
+        return below_32_4(r, below(32, 35960, 4, 48, r, a));
+    }
+    let j = rows(32, 16, 35960, 4, 48, r, a);
+    let t = middle(32, 8, j, 4, r);
+    let j = half(32, 8, j, t, halves_low::upper_4(t), 4, r);
+    let t = middle(32, 4, j, 4, r);
+    let j = half(32, 4, j, t, halves_low::upper_4(t), 4, r);
+    let t = middle(32, 2, j, 4, r);
+    let j = half(32, 2, j, t, halves_low::upper_4(t), 4, r);
+    let t = middle(32, 1, j, 4, r);
+    let j = half(32, 1, j, t, halves_low::upper_4(t), 4, r);
+    let t = 32 + j;
+    let c = halves_low::upper_4(t);
+    let x = with(32, j, t, c, 4, 48, r, a);
+    below_48_3(r - c, x)
+}
+
+fn below_48_5(r: u64, a: u64) -> u64
+    requires { ⌜ Sought 64 5 48 r a ⌝ }
+    ensures { λ x. ⌜ x ≡ a + value 5 r ⌝ }
+{
+    if r < 201376 {
+        return below_32_5(r, below(32, 201376, 5, 48, r, a));
+    }
+    let j = rows(32, 16, 201376, 5, 48, r, a);
+    let t = middle(32, 8, j, 5, r);
+    let j = half(32, 8, j, t, halves_low::upper_5(t), 5, r);
+    let t = middle(32, 4, j, 5, r);
+    let j = half(32, 4, j, t, halves_low::upper_5(t), 5, r);
+    let t = middle(32, 2, j, 5, r);
+    let j = half(32, 2, j, t, halves_low::upper_5(t), 5, r);
+    let t = middle(32, 1, j, 5, r);
+    let j = half(32, 1, j, t, halves_low::upper_5(t), 5, r);
+    let t = 32 + j;
+    let c = halves_low::upper_5(t);
+    let x = with(32, j, t, c, 5, 48, r, a);
+    below_48_4(r - c, x)
+}
+
+fn below_48_6(r: u64, a: u64) -> u64
+    requires { ⌜ Sought 64 6 48 r a ⌝ }
+    ensures { λ x. ⌜ x ≡ a + value 6 r ⌝ }
+{
+    if r < 906192 {
+        return below_32_6(r, below(32, 906192, 6, 48, r, a));
+    }
+    let j = rows(32, 16, 906192, 6, 48, r, a);
+    let t = middle(32, 8, j, 6, r);
+    let j = half(32, 8, j, t, halves_low::upper_6(t), 6, r);
+    let t = middle(32, 4, j, 6, r);
+    let j = half(32, 4, j, t, halves_low::upper_6(t), 6, r);
+    let t = middle(32, 2, j, 6, r);
+    let j = half(32, 2, j, t, halves_low::upper_6(t), 6, r);
+    let t = middle(32, 1, j, 6, r);
+    let j = half(32, 1, j, t, halves_low::upper_6(t), 6, r);
+    let t = 32 + j;
+    let c = halves_low::upper_6(t);
+    let x = with(32, j, t, c, 6, 48, r, a);
+    below_48_5(r - c, x)
+}
+
+fn below_48_7(r: u64, a: u64) -> u64
+    requires { ⌜ Sought 64 7 48 r a ⌝ }
+    ensures { λ x. ⌜ x ≡ a + value 7 r ⌝ }
+{
+    if r < 3365856 {
+        return below_32_7(r, below(32, 3365856, 7, 48, r, a));
+    }
+    let j = rows(32, 16, 3365856, 7, 48, r, a);
+    let t = middle(32, 8, j, 7, r);
+    let j = half(32, 8, j, t, halves_low::upper_7(t), 7, r);
+    let t = middle(32, 4, j, 7, r);
+    let j = half(32, 4, j, t, halves_low::upper_7(t), 7, r);
+    let t = middle(32, 2, j, 7, r);
+    let j = half(32, 2, j, t, halves_low::upper_7(t), 7, r);
+    let t = middle(32, 1, j, 7, r);
+    let j = half(32, 1, j, t, halves_low::upper_7(t), 7, r);
+    let t = 32 + j;
+    let c = halves_low::upper_7(t);
+    let x = with(32, j, t, c, 7, 48, r, a);
+    below_48_6(r - c, x)
+}
+
+fn below_48_8(r: u64, a: u64) -> u64
+    requires { ⌜ Sought 64 8 48 r a ⌝ }
+    ensures { λ x. ⌜ x ≡ a + value 8 r ⌝ }
+{
+    if r < 10518300 {
+        return below_32_8(r, below(32, 10518300, 8, 48, r, a));
+    }
+    let j = rows(32, 16, 10518300, 8, 48, r, a);
+    let t = middle(32, 8, j, 8, r);
+    let j = half(32, 8, j, t, halves_low::upper_8(t), 8, r);
+    let t = middle(32, 4, j, 8, r);
+    let j = half(32, 4, j, t, halves_low::upper_8(t), 8, r);
+    let t = middle(32, 2, j, 8, r);
+    let j = half(32, 2, j, t, halves_low::upper_8(t), 8, r);
+    let t = middle(32, 1, j, 8, r);
+    let j = half(32, 1, j, t, halves_low::upper_8(t), 8, r);
+    let t = 32 + j;
+    let c = halves_low::upper_8(t);
+    let x = with(32, j, t, c, 8, 48, r, a);
+    below_48_7(r - c, x)
+}
+
+fn below_48_9(r: u64, a: u64) -> u64
+    requires { ⌜ Sought 64 9 48 r a ⌝ }
+    ensures { λ x. ⌜ x ≡ a + value 9 r ⌝ }
+{
+    if r < 28048800 {
+        return below_32_9(r, below(32, 28048800, 9, 48, r, a));
+    }
+    let j = rows(32, 16, 28048800, 9, 48, r, a);
+    let t = middle(32, 8, j, 9, r);
+    let j = half(32, 8, j, t, halves_low::upper_9(t), 9, r);
+    let t = middle(32, 4, j, 9, r);
+    let j = half(32, 4, j, t, halves_low::upper_9(t), 9, r);
+    let t = middle(32, 2, j, 9, r);
+    let j = half(32, 2, j, t, halves_low::upper_9(t), 9, r);
+    let t = middle(32, 1, j, 9, r);
+    let j = half(32, 1, j, t, halves_low::upper_9(t), 9, r);
+    let t = 32 + j;
+    let c = halves_low::upper_9(t);
+    let x = with(32, j, t, c, 9, 48, r, a);
+    below_48_8(r - c, x)
+}
+
+fn below_48_10(r: u64, a: u64) -> u64
+    requires { ⌜ Sought 64 10 48 r a ⌝ }
+    ensures { λ x. ⌜ x ≡ a + value 10 r ⌝ }
+{
+    if r < 64512240 {
+        return below_32_10(r, below(32, 64512240, 10, 48, r, a));
+    }
+    let j = rows(32, 16, 64512240, 10, 48, r, a);
+    let t = middle(32, 8, j, 10, r);
+    let j = half(32, 8, j, t, halves_low::upper_10(t), 10, r);
+    let t = middle(32, 4, j, 10, r);
+    let j = half(32, 4, j, t, halves_low::upper_10(t), 10, r);
+    let t = middle(32, 2, j, 10, r);
+    let j = half(32, 2, j, t, halves_low::upper_10(t), 10, r);
+    let t = middle(32, 1, j, 10, r);
+    let j = half(32, 1, j, t, halves_low::upper_10(t), 10, r);
+    let t = 32 + j;
+    let c = halves_low::upper_10(t);
+    let x = with(32, j, t, c, 10, 48, r, a);
+    below_48_9(r - c, x)
+}
+
+fn below_48_11(r: u64, a: u64) -> u64
+    requires { ⌜ Sought 64 11 48 r a ⌝ }
+    ensures { λ x. ⌜ x ≡ a + value 11 r ⌝ }
+{
+    if r < 129024480 {
+        return below_32_11(r, below(32, 129024480, 11, 48, r, a));
+    }
+    let j = rows(32, 16, 129024480, 11, 48, r, a);
+    let t = middle(32, 8, j, 11, r);
+    let j = half(32, 8, j, t, halves_low::upper_11(t), 11, r);
+    let t = middle(32, 4, j, 11, r);
+    let j = half(32, 4, j, t, halves_low::upper_11(t), 11, r);
+    let t = middle(32, 2, j, 11, r);
+    let j = half(32, 2, j, t, halves_low::upper_11(t), 11, r);
+    let t = middle(32, 1, j, 11, r);
+    let j = half(32, 1, j, t, halves_low::upper_11(t), 11, r);
+    let t = 32 + j;
+    let c = halves_low::upper_11(t);
+    let x = with(32, j, t, c, 11, 48, r, a);
+    below_48_10(r - c, x)
+}
+
+fn below_48_12(r: u64, a: u64) -> u64
+    requires { ⌜ Sought 64 12 48 r a ⌝ }
+    ensures { λ x. ⌜ x ≡ a + value 12 r ⌝ }
+{
+    if r < 225792840 {
+        return below_32_12(r, below(32, 225792840, 12, 48, r, a));
+    }
+    let j = rows(32, 16, 225792840, 12, 48, r, a);
+    let t = middle(32, 8, j, 12, r);
+    let j = half(32, 8, j, t, halves_low::upper_12(t), 12, r);
+    let t = middle(32, 4, j, 12, r);
+    let j = half(32, 4, j, t, halves_low::upper_12(t), 12, r);
+    let t = middle(32, 2, j, 12, r);
+    let j = half(32, 2, j, t, halves_low::upper_12(t), 12, r);
+    let t = middle(32, 1, j, 12, r);
+    let j = half(32, 1, j, t, halves_low::upper_12(t), 12, r);
+    let t = 32 + j;
+    let c = halves_low::upper_12(t);
+    let x = with(32, j, t, c, 12, 48, r, a);
+    below_48_11(r - c, x)
+}
+
+fn below_48_13(r: u64, a: u64) -> u64
+    requires { ⌜ Sought 64 13 48 r a ⌝ }
+    ensures { λ x. ⌜ x ≡ a + value 13 r ⌝ }
+{
+    if r < 347373600 {
+        return below_32_13(r, below(32, 347373600, 13, 48, r, a));
+    }
+    let j = rows(32, 16, 347373600, 13, 48, r, a);
+    let t = middle(32, 8, j, 13, r);
+    let j = half(32, 8, j, t, halves_low::upper_13(t), 13, r);
+    let t = middle(32, 4, j, 13, r);
+    let j = half(32, 4, j, t, halves_low::upper_13(t), 13, r);
+    let t = middle(32, 2, j, 13, r);
+    let j = half(32, 2, j, t, halves_low::upper_13(t), 13, r);
+    let t = middle(32, 1, j, 13, r);
+    let j = half(32, 1, j, t, halves_low::upper_13(t), 13, r);
+    let t = 32 + j;
+    let c = halves_low::upper_13(t);
+    let x = with(32, j, t, c, 13, 48, r, a);
+    below_48_12(r - c, x)
+}
+
+fn below_48_14(r: u64, a: u64) -> u64
+    requires { ⌜ Sought 64 14 48 r a ⌝ }
+    ensures { λ x. ⌜ x ≡ a + value 14 r ⌝ }
+{
+    if r < 471435600 {
+        return below_32_14(r, below(32, 471435600, 14, 48, r, a));
+    }
+    let j = rows(32, 16, 471435600, 14, 48, r, a);
+    let t = middle(32, 8, j, 14, r);
+    let j = half(32, 8, j, t, halves_low::upper_14(t), 14, r);
+    let t = middle(32, 4, j, 14, r);
+    let j = half(32, 4, j, t, halves_low::upper_14(t), 14, r);
+    let t = middle(32, 2, j, 14, r);
+    let j = half(32, 2, j, t, halves_low::upper_14(t), 14, r);
+    let t = middle(32, 1, j, 14, r);
+    let j = half(32, 1, j, t, halves_low::upper_14(t), 14, r);
+    let t = 32 + j;
+    let c = halves_low::upper_14(t);
+    let x = with(32, j, t, c, 14, 48, r, a);
+    below_48_13(r - c, x)
+}
+
+fn below_48_15(r: u64, a: u64) -> u64
+    requires { ⌜ Sought 64 15 48 r a ⌝ }
+    ensures { λ x. ⌜ x ≡ a + value 15 r ⌝ }
+{
+    if r < 565722720 {
+        return below_32_15(r, below(32, 565722720, 15, 48, r, a));
+    }
+    let j = rows(32, 16, 565722720, 15, 48, r, a);
+    let t = middle(32, 8, j, 15, r);
+    let j = half(32, 8, j, t, halves_low::upper_15(t), 15, r);
+    let t = middle(32, 4, j, 15, r);
+    let j = half(32, 4, j, t, halves_low::upper_15(t), 15, r);
+    let t = middle(32, 2, j, 15, r);
+    let j = half(32, 2, j, t, halves_low::upper_15(t), 15, r);
+    let t = middle(32, 1, j, 15, r);
+    let j = half(32, 1, j, t, halves_low::upper_15(t), 15, r);
+    let t = 32 + j;
+    let c = halves_low::upper_15(t);
+    let x = with(32, j, t, c, 15, 48, r, a);
+    below_48_14(r - c, x)
+}
+
+fn below_48_16(r: u64, a: u64) -> u64
+    requires { ⌜ Sought 64 16 48 r a ⌝ }
+    ensures { λ x. ⌜ x ≡ a + value 16 r ⌝ }
+{
+    if r < 601080390 {
+        return below_32_16(r, below(32, 601080390, 16, 48, r, a));
+    }
+    let j = rows(32, 16, 601080390, 16, 48, r, a);
+    let t = middle(32, 8, j, 16, r);
+    let j = half(32, 8, j, t, halves_low::upper_16(t), 16, r);
+    let t = middle(32, 4, j, 16, r);
+    let j = half(32, 4, j, t, halves_low::upper_16(t), 16, r);
+    let t = middle(32, 2, j, 16, r);
+    let j = half(32, 2, j, t, halves_low::upper_16(t), 16, r);
+    let t = middle(32, 1, j, 16, r);
+    let j = half(32, 1, j, t, halves_low::upper_16(t), 16, r);
+    let t = 32 + j;
+    let c = halves_low::upper_16(t);
+    let x = with(32, j, t, c, 16, 48, r, a);
+    below_48_15(r - c, x)
+}
+
+fn below_48_17(r: u64, a: u64) -> u64
+    requires { ⌜ Sought 64 17 48 r a ⌝ }
+    ensures { λ x. ⌜ x ≡ a + value 17 r ⌝ }
+{
+    if r < 565722720 {
+        return below_32_17(r, below(32, 565722720, 17, 48, r, a));
+    }
+    let j = rows(32, 16, 565722720, 17, 48, r, a);
+    let t = middle(32, 8, j, 17, r);
+    let j = half(32, 8, j, t, halves_high::upper_17(t), 17, r);
+    let t = middle(32, 4, j, 17, r);
+    let j = half(32, 4, j, t, halves_high::upper_17(t), 17, r);
+    let t = middle(32, 2, j, 17, r);
+    let j = half(32, 2, j, t, halves_high::upper_17(t), 17, r);
+    let t = middle(32, 1, j, 17, r);
+    let j = half(32, 1, j, t, halves_high::upper_17(t), 17, r);
+    let t = 32 + j;
+    let c = halves_high::upper_17(t);
+    let x = with(32, j, t, c, 17, 48, r, a);
+    below_48_16(r - c, x)
+}
+
+fn below_48_18(r: u64, a: u64) -> u64
+    requires { ⌜ Sought 64 18 48 r a ⌝ }
+    ensures { λ x. ⌜ x ≡ a + value 18 r ⌝ }
+{
+    if r < 471435600 {
+        return below_32_18(r, below(32, 471435600, 18, 48, r, a));
+    }
+    let j = rows(32, 16, 471435600, 18, 48, r, a);
+    let t = middle(32, 8, j, 18, r);
+    let j = half(32, 8, j, t, halves_high::upper_18(t), 18, r);
+    let t = middle(32, 4, j, 18, r);
+    let j = half(32, 4, j, t, halves_high::upper_18(t), 18, r);
+    let t = middle(32, 2, j, 18, r);
+    let j = half(32, 2, j, t, halves_high::upper_18(t), 18, r);
+    let t = middle(32, 1, j, 18, r);
+    let j = half(32, 1, j, t, halves_high::upper_18(t), 18, r);
+    let t = 32 + j;
+    let c = halves_high::upper_18(t);
+    let x = with(32, j, t, c, 18, 48, r, a);
+    below_48_17(r - c, x)
+}
+
+fn below_48_19(r: u64, a: u64) -> u64
+    requires { ⌜ Sought 64 19 48 r a ⌝ }
+    ensures { λ x. ⌜ x ≡ a + value 19 r ⌝ }
+{
+    if r < 347373600 {
+        return below_32_19(r, below(32, 347373600, 19, 48, r, a));
+    }
+    let j = rows(32, 16, 347373600, 19, 48, r, a);
+    let t = middle(32, 8, j, 19, r);
+    let j = half(32, 8, j, t, halves_high::upper_19(t), 19, r);
+    let t = middle(32, 4, j, 19, r);
+    let j = half(32, 4, j, t, halves_high::upper_19(t), 19, r);
+    let t = middle(32, 2, j, 19, r);
+    let j = half(32, 2, j, t, halves_high::upper_19(t), 19, r);
+    let t = middle(32, 1, j, 19, r);
+    let j = half(32, 1, j, t, halves_high::upper_19(t), 19, r);
+    let t = 32 + j;
+    let c = halves_high::upper_19(t);
+    let x = with(32, j, t, c, 19, 48, r, a);
+    below_48_18(r - c, x)
+}
+
+fn below_48_20(r: u64, a: u64) -> u64
+    requires { ⌜ Sought 64 20 48 r a ⌝ }
+    ensures { λ x. ⌜ x ≡ a + value 20 r ⌝ }
+{
+    if r < 225792840 {
+        return below_32_20(r, below(32, 225792840, 20, 48, r, a));
+    }
+    let j = rows(32, 16, 225792840, 20, 48, r, a);
+    let t = middle(32, 8, j, 20, r);
+    let j = half(32, 8, j, t, halves_high::upper_20(t), 20, r);
+    let t = middle(32, 4, j, 20, r);
+    let j = half(32, 4, j, t, halves_high::upper_20(t), 20, r);
+    let t = middle(32, 2, j, 20, r);
+    let j = half(32, 2, j, t, halves_high::upper_20(t), 20, r);
+    let t = middle(32, 1, j, 20, r);
+    let j = half(32, 1, j, t, halves_high::upper_20(t), 20, r);
+    let t = 32 + j;
+    let c = halves_high::upper_20(t);
+    let x = with(32, j, t, c, 20, 48, r, a);
+    below_48_19(r - c, x)
+}
+
+fn below_48_21(r: u64, a: u64) -> u64
+    requires { ⌜ Sought 64 21 48 r a ⌝ }
+    ensures { λ x. ⌜ x ≡ a + value 21 r ⌝ }
+{
+    if r < 129024480 {
+        return below_32_21(r, below(32, 129024480, 21, 48, r, a));
+    }
+    let j = rows(32, 16, 129024480, 21, 48, r, a);
+    let t = middle(32, 8, j, 21, r);
+    let j = half(32, 8, j, t, halves_high::upper_21(t), 21, r);
+    let t = middle(32, 4, j, 21, r);
+    let j = half(32, 4, j, t, halves_high::upper_21(t), 21, r);
+    let t = middle(32, 2, j, 21, r);
+    let j = half(32, 2, j, t, halves_high::upper_21(t), 21, r);
+    let t = middle(32, 1, j, 21, r);
+    let j = half(32, 1, j, t, halves_high::upper_21(t), 21, r);
+    let t = 32 + j;
+    let c = halves_high::upper_21(t);
+    let x = with(32, j, t, c, 21, 48, r, a);
+    below_48_20(r - c, x)
+}
+
+fn below_48_22(r: u64, a: u64) -> u64
+    requires { ⌜ Sought 64 22 48 r a ⌝ }
+    ensures { λ x. ⌜ x ≡ a + value 22 r ⌝ }
+{
+    if r < 64512240 {
+        return below_32_22(r, below(32, 64512240, 22, 48, r, a));
+    }
+    let j = rows(32, 16, 64512240, 22, 48, r, a);
+    let t = middle(32, 8, j, 22, r);
+    let j = half(32, 8, j, t, halves_high::upper_22(t), 22, r);
+    let t = middle(32, 4, j, 22, r);
+    let j = half(32, 4, j, t, halves_high::upper_22(t), 22, r);
+    let t = middle(32, 2, j, 22, r);
+    let j = half(32, 2, j, t, halves_high::upper_22(t), 22, r);
+    let t = middle(32, 1, j, 22, r);
+    let j = half(32, 1, j, t, halves_high::upper_22(t), 22, r);
+    let t = 32 + j;
+    let c = halves_high::upper_22(t);
+    let x = with(32, j, t, c, 22, 48, r, a);
+    below_48_21(r - c, x)
+}
+
+fn below_48_23(r: u64, a: u64) -> u64
+    requires { ⌜ Sought 64 23 48 r a ⌝ }
+    ensures { λ x. ⌜ x ≡ a + value 23 r ⌝ }
+{
+    if r < 28048800 {
+        return below_32_23(r, below(32, 28048800, 23, 48, r, a));
+    }
+    let j = rows(32, 16, 28048800, 23, 48, r, a);
+    let t = middle(32, 8, j, 23, r);
+    let j = half(32, 8, j, t, halves_high::upper_23(t), 23, r);
+    let t = middle(32, 4, j, 23, r);
+    let j = half(32, 4, j, t, halves_high::upper_23(t), 23, r);
+    let t = middle(32, 2, j, 23, r);
+    let j = half(32, 2, j, t, halves_high::upper_23(t), 23, r);
+    let t = middle(32, 1, j, 23, r);
+    let j = half(32, 1, j, t, halves_high::upper_23(t), 23, r);
+    let t = 32 + j;
+    let c = halves_high::upper_23(t);
+    let x = with(32, j, t, c, 23, 48, r, a);
+    below_48_22(r - c, x)
+}
+
+fn below_48_24(r: u64, a: u64) -> u64
+    requires { ⌜ Sought 64 24 48 r a ⌝ }
+    ensures { λ x. ⌜ x ≡ a + value 24 r ⌝ }
+{
+    if r < 10518300 {
+        return below_32_24(r, below(32, 10518300, 24, 48, r, a));
+    }
+    let j = rows(32, 16, 10518300, 24, 48, r, a);
+    let t = middle(32, 8, j, 24, r);
+    let j = half(32, 8, j, t, halves_high::upper_24(t), 24, r);
+    let t = middle(32, 4, j, 24, r);
+    let j = half(32, 4, j, t, halves_high::upper_24(t), 24, r);
+    let t = middle(32, 2, j, 24, r);
+    let j = half(32, 2, j, t, halves_high::upper_24(t), 24, r);
+    let t = middle(32, 1, j, 24, r);
+    let j = half(32, 1, j, t, halves_high::upper_24(t), 24, r);
+    let t = 32 + j;
+    let c = halves_high::upper_24(t);
+    let x = with(32, j, t, c, 24, 48, r, a);
+    below_48_23(r - c, x)
+}
+
+fn below_48_25(r: u64, a: u64) -> u64
+    requires { ⌜ Sought 64 25 48 r a ⌝ }
+    ensures { λ x. ⌜ x ≡ a + value 25 r ⌝ }
+{
+    if r < 3365856 {
+        return below_32_25(r, below(32, 3365856, 25, 48, r, a));
+    }
+    let j = rows(32, 16, 3365856, 25, 48, r, a);
     let t = middle(32, 8, j, 25, r);
     let j = half(32, 8, j, t, halves_high::upper_25(t), 25, r);
     let t = middle(32, 4, j, 25, r);
@@ -1430,47 +1508,21 @@ fn above_25(s: u64, r: u64, a: u64) -> u64
     let t = middle(32, 2, j, 25, r);
     let j = half(32, 2, j, t, halves_high::upper_25(t), 25, r);
     let t = middle(32, 1, j, 25, r);
-    half(32, 1, j, t, halves_high::upper_25(t), 25, r)
+    let j = half(32, 1, j, t, halves_high::upper_25(t), 25, r);
+    let t = 32 + j;
+    let c = halves_high::upper_25(t);
+    let x = with(32, j, t, c, 25, 48, r, a);
+    below_48_24(r - c, x)
 }
 
-fn below_25(s: u64, r: u64, a: u64) -> u64
-    requires { ⌜ Sought 64 25 s r a × (r < 3365856) ⌝ }
-    ensures { λ j. ⌜ Among 24 25 r j 1 ⌝ }
+fn below_48_26(r: u64, a: u64) -> u64
+    requires { ⌜ Sought 64 26 48 r a ⌝ }
+    ensures { λ x. ⌜ x ≡ a + value 26 r ⌝ }
 {
-    let j = below(24, 8, 25, 0, 3365856, r);
-    let t = middle(24, 4, j, 25, r);
-    let j = half(24, 4, j, t, halves_high::lower_25(t), 25, r);
-    let t = middle(24, 2, j, 25, r);
-    let j = half(24, 2, j, t, halves_high::lower_25(t), 25, r);
-    let t = middle(24, 1, j, 25, r);
-    half(24, 1, j, t, halves_high::lower_25(t), 25, r)
-}
-
-pub fn from_25(s: u64, r: u64, a: u64) -> u64
-    requires { ⌜ Sought 64 25 s r a ⌝ }
-    ensures { λ x. ⌜ x ≡ a + value 25 r ⌝ }
-{
-    if 3365856 <= r {
-        let j = above_25(s, r, a);
-        let t = 32 + j;
-        let c = halves_high::upper_25(t);
-        let x = with(32, j, t, c, 25, s, r, a);
-        return from_24(t, r - c, x);
+    if r < 906192 {
+        return below_32_26(r, below(32, 906192, 26, 48, r, a));
     }
-    let j = below_25(s, r, a);
-    let t = 24 + j;
-    let c = halves_high::lower_25(t);
-    let x = with(24, j, t, c, 25, s, r, a);
-    from_24(t, r - c, x)
-}
-
-fn above_26(s: u64, r: u64, a: u64) -> u64
-    requires { ⌜ Sought 64 26 s r a × (906192 ≤ r) ⌝ }
-    ensures { λ j. ⌜ Among 32 26 r j 1 ⌝ }
-{
-    let j = above(26, 906192, s, r, a);
-    let t = middle(32, 16, j, 26, r);
-    let j = half(32, 16, j, t, halves_high::upper_26(t), 26, r);
+    let j = rows(32, 16, 906192, 26, 48, r, a);
     let t = middle(32, 8, j, 26, r);
     let j = half(32, 8, j, t, halves_high::upper_26(t), 26, r);
     let t = middle(32, 4, j, 26, r);
@@ -1478,47 +1530,21 @@ fn above_26(s: u64, r: u64, a: u64) -> u64
     let t = middle(32, 2, j, 26, r);
     let j = half(32, 2, j, t, halves_high::upper_26(t), 26, r);
     let t = middle(32, 1, j, 26, r);
-    half(32, 1, j, t, halves_high::upper_26(t), 26, r)
+    let j = half(32, 1, j, t, halves_high::upper_26(t), 26, r);
+    let t = 32 + j;
+    let c = halves_high::upper_26(t);
+    let x = with(32, j, t, c, 26, 48, r, a);
+    below_48_25(r - c, x)
 }
 
-fn below_26(s: u64, r: u64, a: u64) -> u64
-    requires { ⌜ Sought 64 26 s r a × (r < 906192) ⌝ }
-    ensures { λ j. ⌜ Among 24 26 r j 1 ⌝ }
+fn below_48_27(r: u64, a: u64) -> u64
+    requires { ⌜ Sought 64 27 48 r a ⌝ }
+    ensures { λ x. ⌜ x ≡ a + value 27 r ⌝ }
 {
-    let j = below(24, 8, 26, 0, 906192, r);
-    let t = middle(24, 4, j, 26, r);
-    let j = half(24, 4, j, t, halves_high::lower_26(t), 26, r);
-    let t = middle(24, 2, j, 26, r);
-    let j = half(24, 2, j, t, halves_high::lower_26(t), 26, r);
-    let t = middle(24, 1, j, 26, r);
-    half(24, 1, j, t, halves_high::lower_26(t), 26, r)
-}
-
-pub fn from_26(s: u64, r: u64, a: u64) -> u64
-    requires { ⌜ Sought 64 26 s r a ⌝ }
-    ensures { λ x. ⌜ x ≡ a + value 26 r ⌝ }
-{
-    if 906192 <= r {
-        let j = above_26(s, r, a);
-        let t = 32 + j;
-        let c = halves_high::upper_26(t);
-        let x = with(32, j, t, c, 26, s, r, a);
-        return from_25(t, r - c, x);
+    if r < 201376 {
+        return below_32_27(r, below(32, 201376, 27, 48, r, a));
     }
-    let j = below_26(s, r, a);
-    let t = 24 + j;
-    let c = halves_high::lower_26(t);
-    let x = with(24, j, t, c, 26, s, r, a);
-    from_25(t, r - c, x)
-}
-
-fn above_27(s: u64, r: u64, a: u64) -> u64
-    requires { ⌜ Sought 64 27 s r a × (201376 ≤ r) ⌝ }
-    ensures { λ j. ⌜ Among 32 27 r j 1 ⌝ }
-{
-    let j = above(27, 201376, s, r, a);
-    let t = middle(32, 16, j, 27, r);
-    let j = half(32, 16, j, t, halves_high::upper_27(t), 27, r);
+    let j = rows(32, 16, 201376, 27, 48, r, a);
     let t = middle(32, 8, j, 27, r);
     let j = half(32, 8, j, t, halves_high::upper_27(t), 27, r);
     let t = middle(32, 4, j, 27, r);
@@ -1526,47 +1552,21 @@ fn above_27(s: u64, r: u64, a: u64) -> u64
     let t = middle(32, 2, j, 27, r);
     let j = half(32, 2, j, t, halves_high::upper_27(t), 27, r);
     let t = middle(32, 1, j, 27, r);
-    half(32, 1, j, t, halves_high::upper_27(t), 27, r)
+    let j = half(32, 1, j, t, halves_high::upper_27(t), 27, r);
+    let t = 32 + j;
+    let c = halves_high::upper_27(t);
+    let x = with(32, j, t, c, 27, 48, r, a);
+    below_48_26(r - c, x)
 }
 
-fn below_27(s: u64, r: u64, a: u64) -> u64
-    requires { ⌜ Sought 64 27 s r a × (r < 201376) ⌝ }
-    ensures { λ j. ⌜ Among 24 27 r j 1 ⌝ }
+fn below_48_28(r: u64, a: u64) -> u64
+    requires { ⌜ Sought 64 28 48 r a ⌝ }
+    ensures { λ x. ⌜ x ≡ a + value 28 r ⌝ }
 {
-    let j = below(24, 8, 27, 0, 201376, r);
-    let t = middle(24, 4, j, 27, r);
-    let j = half(24, 4, j, t, halves_high::lower_27(t), 27, r);
-    let t = middle(24, 2, j, 27, r);
-    let j = half(24, 2, j, t, halves_high::lower_27(t), 27, r);
-    let t = middle(24, 1, j, 27, r);
-    half(24, 1, j, t, halves_high::lower_27(t), 27, r)
-}
-
-pub fn from_27(s: u64, r: u64, a: u64) -> u64
-    requires { ⌜ Sought 64 27 s r a ⌝ }
-    ensures { λ x. ⌜ x ≡ a + value 27 r ⌝ }
-{
-    if 201376 <= r {
-        let j = above_27(s, r, a);
-        let t = 32 + j;
-        let c = halves_high::upper_27(t);
-        let x = with(32, j, t, c, 27, s, r, a);
-        return from_26(t, r - c, x);
+    if r < 35960 {
+        return below_32_28(r, below(32, 35960, 28, 48, r, a));
     }
-    let j = below_27(s, r, a);
-    let t = 24 + j;
-    let c = halves_high::lower_27(t);
-    let x = with(24, j, t, c, 27, s, r, a);
-    from_26(t, r - c, x)
-}
-
-fn above_28(s: u64, r: u64, a: u64) -> u64
-    requires { ⌜ Sought 64 28 s r a × (35960 ≤ r) ⌝ }
-    ensures { λ j. ⌜ Among 32 28 r j 1 ⌝ }
-{
-    let j = above(28, 35960, s, r, a);
-    let t = middle(32, 16, j, 28, r);
-    let j = half(32, 16, j, t, halves_high::upper_28(t), 28, r);
+    let j = rows(32, 16, 35960, 28, 48, r, a);
     let t = middle(32, 8, j, 28, r);
     let j = half(32, 8, j, t, halves_high::upper_28(t), 28, r);
     let t = middle(32, 4, j, 28, r);
@@ -1574,47 +1574,21 @@ fn above_28(s: u64, r: u64, a: u64) -> u64
     let t = middle(32, 2, j, 28, r);
     let j = half(32, 2, j, t, halves_high::upper_28(t), 28, r);
     let t = middle(32, 1, j, 28, r);
-    half(32, 1, j, t, halves_high::upper_28(t), 28, r)
+    let j = half(32, 1, j, t, halves_high::upper_28(t), 28, r);
+    let t = 32 + j;
+    let c = halves_high::upper_28(t);
+    let x = with(32, j, t, c, 28, 48, r, a);
+    below_48_27(r - c, x)
 }
 
-fn below_28(s: u64, r: u64, a: u64) -> u64
-    requires { ⌜ Sought 64 28 s r a × (r < 35960) ⌝ }
-    ensures { λ j. ⌜ Among 24 28 r j 1 ⌝ }
+fn below_48_29(r: u64, a: u64) -> u64
+    requires { ⌜ Sought 64 29 48 r a ⌝ }
+    ensures { λ x. ⌜ x ≡ a + value 29 r ⌝ }
 {
-    let j = below(24, 8, 28, 0, 35960, r);
-    let t = middle(24, 4, j, 28, r);
-    let j = half(24, 4, j, t, halves_high::lower_28(t), 28, r);
-    let t = middle(24, 2, j, 28, r);
-    let j = half(24, 2, j, t, halves_high::lower_28(t), 28, r);
-    let t = middle(24, 1, j, 28, r);
-    half(24, 1, j, t, halves_high::lower_28(t), 28, r)
-}
-
-pub fn from_28(s: u64, r: u64, a: u64) -> u64
-    requires { ⌜ Sought 64 28 s r a ⌝ }
-    ensures { λ x. ⌜ x ≡ a + value 28 r ⌝ }
-{
-    if 35960 <= r {
-        let j = above_28(s, r, a);
-        let t = 32 + j;
-        let c = halves_high::upper_28(t);
-        let x = with(32, j, t, c, 28, s, r, a);
-        return from_27(t, r - c, x);
+    if r < 4960 {
+        return below_32_29(r, below(32, 4960, 29, 48, r, a));
     }
-    let j = below_28(s, r, a);
-    let t = 24 + j;
-    let c = halves_high::lower_28(t);
-    let x = with(24, j, t, c, 28, s, r, a);
-    from_27(t, r - c, x)
-}
-
-fn above_29(s: u64, r: u64, a: u64) -> u64
-    requires { ⌜ Sought 64 29 s r a × (4960 ≤ r) ⌝ }
-    ensures { λ j. ⌜ Among 32 29 r j 1 ⌝ }
-{
-    let j = above(29, 4960, s, r, a);
-    let t = middle(32, 16, j, 29, r);
-    let j = half(32, 16, j, t, halves_high::upper_29(t), 29, r);
+    let j = rows(32, 16, 4960, 29, 48, r, a);
     let t = middle(32, 8, j, 29, r);
     let j = half(32, 8, j, t, halves_high::upper_29(t), 29, r);
     let t = middle(32, 4, j, 29, r);
@@ -1622,45 +1596,21 @@ fn above_29(s: u64, r: u64, a: u64) -> u64
     let t = middle(32, 2, j, 29, r);
     let j = half(32, 2, j, t, halves_high::upper_29(t), 29, r);
     let t = middle(32, 1, j, 29, r);
-    half(32, 1, j, t, halves_high::upper_29(t), 29, r)
+    let j = half(32, 1, j, t, halves_high::upper_29(t), 29, r);
+    let t = 32 + j;
+    let c = halves_high::upper_29(t);
+    let x = with(32, j, t, c, 29, 48, r, a);
+    below_48_28(r - c, x)
 }
 
-fn below_29(s: u64, r: u64, a: u64) -> u64
-    requires { ⌜ Sought 64 29 s r a × (r < 4960) ⌝ }
-    ensures { λ j. ⌜ Among 28 29 r j 1 ⌝ }
+fn below_48_30(r: u64, a: u64) -> u64
+    requires { ⌜ Sought 64 30 48 r a ⌝ }
+    ensures { λ x. ⌜ x ≡ a + value 30 r ⌝ }
 {
-    let j = below(28, 4, 29, 0, 4960, r);
-    let t = middle(28, 2, j, 29, r);
-    let j = half(28, 2, j, t, halves_high::lower_29(t), 29, r);
-    let t = middle(28, 1, j, 29, r);
-    half(28, 1, j, t, halves_high::lower_29(t), 29, r)
-}
-
-pub fn from_29(s: u64, r: u64, a: u64) -> u64
-    requires { ⌜ Sought 64 29 s r a ⌝ }
-    ensures { λ x. ⌜ x ≡ a + value 29 r ⌝ }
-{
-    if 4960 <= r {
-        let j = above_29(s, r, a);
-        let t = 32 + j;
-        let c = halves_high::upper_29(t);
-        let x = with(32, j, t, c, 29, s, r, a);
-        return from_28(t, r - c, x);
+    if r < 496 {
+        return below_32_30(r, below(32, 496, 30, 48, r, a));
     }
-    let j = below_29(s, r, a);
-    let t = 28 + j;
-    let c = halves_high::lower_29(t);
-    let x = with(28, j, t, c, 29, s, r, a);
-    from_28(t, r - c, x)
-}
-
-fn above_30(s: u64, r: u64, a: u64) -> u64
-    requires { ⌜ Sought 64 30 s r a × (496 ≤ r) ⌝ }
-    ensures { λ j. ⌜ Among 32 30 r j 1 ⌝ }
-{
-    let j = above(30, 496, s, r, a);
-    let t = middle(32, 16, j, 30, r);
-    let j = half(32, 16, j, t, halves_high::upper_30(t), 30, r);
+    let j = rows(32, 16, 496, 30, 48, r, a);
     let t = middle(32, 8, j, 30, r);
     let j = half(32, 8, j, t, halves_high::upper_30(t), 30, r);
     let t = middle(32, 4, j, 30, r);
@@ -1668,45 +1618,21 @@ fn above_30(s: u64, r: u64, a: u64) -> u64
     let t = middle(32, 2, j, 30, r);
     let j = half(32, 2, j, t, halves_high::upper_30(t), 30, r);
     let t = middle(32, 1, j, 30, r);
-    half(32, 1, j, t, halves_high::upper_30(t), 30, r)
+    let j = half(32, 1, j, t, halves_high::upper_30(t), 30, r);
+    let t = 32 + j;
+    let c = halves_high::upper_30(t);
+    let x = with(32, j, t, c, 30, 48, r, a);
+    below_48_29(r - c, x)
 }
 
-fn below_30(s: u64, r: u64, a: u64) -> u64
-    requires { ⌜ Sought 64 30 s r a × (r < 496) ⌝ }
-    ensures { λ j. ⌜ Among 28 30 r j 1 ⌝ }
+fn below_48_31(r: u64, a: u64) -> u64
+    requires { ⌜ Sought 64 31 48 r a ⌝ }
+    ensures { λ x. ⌜ x ≡ a + value 31 r ⌝ }
 {
-    let j = below(28, 4, 30, 0, 496, r);
-    let t = middle(28, 2, j, 30, r);
-    let j = half(28, 2, j, t, halves_high::lower_30(t), 30, r);
-    let t = middle(28, 1, j, 30, r);
-    half(28, 1, j, t, halves_high::lower_30(t), 30, r)
-}
-
-pub fn from_30(s: u64, r: u64, a: u64) -> u64
-    requires { ⌜ Sought 64 30 s r a ⌝ }
-    ensures { λ x. ⌜ x ≡ a + value 30 r ⌝ }
-{
-    if 496 <= r {
-        let j = above_30(s, r, a);
-        let t = 32 + j;
-        let c = halves_high::upper_30(t);
-        let x = with(32, j, t, c, 30, s, r, a);
-        return from_29(t, r - c, x);
+    if r < 32 {
+        return below_32_31(r, below(32, 32, 31, 48, r, a));
     }
-    let j = below_30(s, r, a);
-    let t = 28 + j;
-    let c = halves_high::lower_30(t);
-    let x = with(28, j, t, c, 30, s, r, a);
-    from_29(t, r - c, x)
-}
-
-fn above_31(s: u64, r: u64, a: u64) -> u64
-    requires { ⌜ Sought 64 31 s r a × (32 ≤ r) ⌝ }
-    ensures { λ j. ⌜ Among 32 31 r j 1 ⌝ }
-{
-    let j = above(31, 32, s, r, a);
-    let t = middle(32, 16, j, 31, r);
-    let j = half(32, 16, j, t, halves_high::upper_31(t), 31, r);
+    let j = rows(32, 16, 32, 31, 48, r, a);
     let t = middle(32, 8, j, 31, r);
     let j = half(32, 8, j, t, halves_high::upper_31(t), 31, r);
     let t = middle(32, 4, j, 31, r);
@@ -1714,43 +1640,21 @@ fn above_31(s: u64, r: u64, a: u64) -> u64
     let t = middle(32, 2, j, 31, r);
     let j = half(32, 2, j, t, halves_high::upper_31(t), 31, r);
     let t = middle(32, 1, j, 31, r);
-    half(32, 1, j, t, halves_high::upper_31(t), 31, r)
+    let j = half(32, 1, j, t, halves_high::upper_31(t), 31, r);
+    let t = 32 + j;
+    let c = halves_high::upper_31(t);
+    let x = with(32, j, t, c, 31, 48, r, a);
+    below_48_30(r - c, x)
 }
 
-fn below_31(s: u64, r: u64, a: u64) -> u64
-    requires { ⌜ Sought 64 31 s r a × (r < 32) ⌝ }
-    ensures { λ j. ⌜ Among 30 31 r j 1 ⌝ }
+fn below_48_32(r: u64, a: u64) -> u64
+    requires { ⌜ Sought 64 32 48 r a ⌝ }
+    ensures { λ x. ⌜ x ≡ a + value 32 r ⌝ }
 {
-    let j = below(30, 2, 31, 0, 32, r);
-    let t = middle(30, 1, j, 31, r);
-    half(30, 1, j, t, halves_high::lower_31(t), 31, r)
-}
-
-pub fn from_31(s: u64, r: u64, a: u64) -> u64
-    requires { ⌜ Sought 64 31 s r a ⌝ }
-    ensures { λ x. ⌜ x ≡ a + value 31 r ⌝ }
-{
-    if 32 <= r {
-        let j = above_31(s, r, a);
-        let t = 32 + j;
-        let c = halves_high::upper_31(t);
-        let x = with(32, j, t, c, 31, s, r, a);
-        return from_30(t, r - c, x);
+    if r < 1 {
+        return below_32_32(r, below(32, 1, 32, 48, r, a));
     }
-    let j = below_31(s, r, a);
-    let t = 30 + j;
-    let c = halves_high::lower_31(t);
-    let x = with(30, j, t, c, 31, s, r, a);
-    from_30(t, r - c, x)
-}
-
-fn above_32(s: u64, r: u64, a: u64) -> u64
-    requires { ⌜ Sought 64 32 s r a × (1 ≤ r) ⌝ }
-    ensures { λ j. ⌜ Among 32 32 r j 1 ⌝ }
-{
-    let j = above(32, 1, s, r, a);
-    let t = middle(32, 16, j, 32, r);
-    let j = half(32, 16, j, t, halves_high::upper_32(t), 32, r);
+    let j = rows(32, 16, 1, 32, 48, r, a);
     let t = middle(32, 8, j, 32, r);
     let j = half(32, 8, j, t, halves_high::upper_32(t), 32, r);
     let t = middle(32, 4, j, 32, r);
@@ -1758,32 +1662,693 @@ fn above_32(s: u64, r: u64, a: u64) -> u64
     let t = middle(32, 2, j, 32, r);
     let j = half(32, 2, j, t, halves_high::upper_32(t), 32, r);
     let t = middle(32, 1, j, 32, r);
-    half(32, 1, j, t, halves_high::upper_32(t), 32, r)
+    let j = half(32, 1, j, t, halves_high::upper_32(t), 32, r);
+    let t = 32 + j;
+    let c = halves_high::upper_32(t);
+    let x = with(32, j, t, c, 32, 48, r, a);
+    below_48_31(r - c, x)
 }
 
-fn below_32(s: u64, r: u64, a: u64) -> u64
-    requires { ⌜ Sought 64 32 s r a × (r < 1) ⌝ }
-    ensures { λ j. ⌜ Among 31 32 r j 1 ⌝ }
+fn below_64_2(r: u64, a: u64) -> u64
+    requires { ⌜ Sought 64 2 64 r a ⌝ }
+    ensures { λ x. ⌜ x ≡ a + value 2 r ⌝ }
 {
-    below(31, 1, 32, 0, 1, r)
+    if r < 1128 {
+        return below_48_2(r, below(48, 1128, 2, 64, r, a));
+    }
+    let j = rows(48, 16, 1128, 2, 64, r, a);
+    let t = middle(48, 8, j, 2, r);
+    let j = half(48, 8, j, t, halves_low::upper_2(t), 2, r);
+    let t = middle(48, 4, j, 2, r);
+    let j = half(48, 4, j, t, halves_low::upper_2(t), 2, r);
+    let t = middle(48, 2, j, 2, r);
+    let j = half(48, 2, j, t, halves_low::upper_2(t), 2, r);
+    let t = middle(48, 1, j, 2, r);
+    let j = half(48, 1, j, t, halves_low::upper_2(t), 2, r);
+    let t = 48 + j;
+    let c = halves_low::upper_2(t);
+    let x = with(48, j, t, c, 2, 64, r, a);
+    last(64, r - c, x)
 }
 
-pub fn from_32(s: u64, r: u64, a: u64) -> u64
-    requires { ⌜ Sought 64 32 s r a ⌝ }
+fn below_64_3(r: u64, a: u64) -> u64
+    requires { ⌜ Sought 64 3 64 r a ⌝ }
+    ensures { λ x. ⌜ x ≡ a + value 3 r ⌝ }
+{
+    if r < 17296 {
+        return below_48_3(r, below(48, 17296, 3, 64, r, a));
+    }
+    let j = rows(48, 16, 17296, 3, 64, r, a);
+    let t = middle(48, 8, j, 3, r);
+    let j = half(48, 8, j, t, halves_low::upper_3(t), 3, r);
+    let t = middle(48, 4, j, 3, r);
+    let j = half(48, 4, j, t, halves_low::upper_3(t), 3, r);
+    let t = middle(48, 2, j, 3, r);
+    let j = half(48, 2, j, t, halves_low::upper_3(t), 3, r);
+    let t = middle(48, 1, j, 3, r);
+    let j = half(48, 1, j, t, halves_low::upper_3(t), 3, r);
+    let t = 48 + j;
+    let c = halves_low::upper_3(t);
+    let x = with(48, j, t, c, 3, 64, r, a);
+    below_64_2(r - c, x)
+}
+
+fn below_64_4(r: u64, a: u64) -> u64
+    requires { ⌜ Sought 64 4 64 r a ⌝ }
+    ensures { λ x. ⌜ x ≡ a + value 4 r ⌝ }
+{
+    if r < 194580 {
+        return below_48_4(r, below(48, 194580, 4, 64, r, a));
+    }
+    let j = rows(48, 16, 194580, 4, 64, r, a);
+    let t = middle(48, 8, j, 4, r);
+    let j = half(48, 8, j, t, halves_low::upper_4(t), 4, r);
+    let t = middle(48, 4, j, 4, r);
+    let j = half(48, 4, j, t, halves_low::upper_4(t), 4, r);
+    let t = middle(48, 2, j, 4, r);
+    let j = half(48, 2, j, t, halves_low::upper_4(t), 4, r);
+    let t = middle(48, 1, j, 4, r);
+    let j = half(48, 1, j, t, halves_low::upper_4(t), 4, r);
+    let t = 48 + j;
+    let c = halves_low::upper_4(t);
+    let x = with(48, j, t, c, 4, 64, r, a);
+    below_64_3(r - c, x)
+}
+
+fn below_64_5(r: u64, a: u64) -> u64
+    requires { ⌜ Sought 64 5 64 r a ⌝ }
+    ensures { λ x. ⌜ x ≡ a + value 5 r ⌝ }
+{
+    if r < 1712304 {
+        return below_48_5(r, below(48, 1712304, 5, 64, r, a));
+    }
+    let j = rows(48, 16, 1712304, 5, 64, r, a);
+    let t = middle(48, 8, j, 5, r);
+    let j = half(48, 8, j, t, halves_low::upper_5(t), 5, r);
+    let t = middle(48, 4, j, 5, r);
+    let j = half(48, 4, j, t, halves_low::upper_5(t), 5, r);
+    let t = middle(48, 2, j, 5, r);
+    let j = half(48, 2, j, t, halves_low::upper_5(t), 5, r);
+    let t = middle(48, 1, j, 5, r);
+    let j = half(48, 1, j, t, halves_low::upper_5(t), 5, r);
+    let t = 48 + j;
+    let c = halves_low::upper_5(t);
+    let x = with(48, j, t, c, 5, 64, r, a);
+    below_64_4(r - c, x)
+}
+
+fn below_64_6(r: u64, a: u64) -> u64
+    requires { ⌜ Sought 64 6 64 r a ⌝ }
+    ensures { λ x. ⌜ x ≡ a + value 6 r ⌝ }
+{
+    if r < 12271512 {
+        return below_48_6(r, below(48, 12271512, 6, 64, r, a));
+    }
+    let j = rows(48, 16, 12271512, 6, 64, r, a);
+    let t = middle(48, 8, j, 6, r);
+    let j = half(48, 8, j, t, halves_low::upper_6(t), 6, r);
+    let t = middle(48, 4, j, 6, r);
+    let j = half(48, 4, j, t, halves_low::upper_6(t), 6, r);
+    let t = middle(48, 2, j, 6, r);
+    let j = half(48, 2, j, t, halves_low::upper_6(t), 6, r);
+    let t = middle(48, 1, j, 6, r);
+    let j = half(48, 1, j, t, halves_low::upper_6(t), 6, r);
+    let t = 48 + j;
+    let c = halves_low::upper_6(t);
+    let x = with(48, j, t, c, 6, 64, r, a);
+    below_64_5(r - c, x)
+}
+
+fn below_64_7(r: u64, a: u64) -> u64
+    requires { ⌜ Sought 64 7 64 r a ⌝ }
+    ensures { λ x. ⌜ x ≡ a + value 7 r ⌝ }
+{
+    if r < 73629072 {
+        return below_48_7(r, below(48, 73629072, 7, 64, r, a));
+    }
+    let j = rows(48, 16, 73629072, 7, 64, r, a);
+    let t = middle(48, 8, j, 7, r);
+    let j = half(48, 8, j, t, halves_low::upper_7(t), 7, r);
+    let t = middle(48, 4, j, 7, r);
+    let j = half(48, 4, j, t, halves_low::upper_7(t), 7, r);
+    let t = middle(48, 2, j, 7, r);
+    let j = half(48, 2, j, t, halves_low::upper_7(t), 7, r);
+    let t = middle(48, 1, j, 7, r);
+    let j = half(48, 1, j, t, halves_low::upper_7(t), 7, r);
+    let t = 48 + j;
+    let c = halves_low::upper_7(t);
+    let x = with(48, j, t, c, 7, 64, r, a);
+    below_64_6(r - c, x)
+}
+
+fn below_64_8(r: u64, a: u64) -> u64
+    requires { ⌜ Sought 64 8 64 r a ⌝ }
+    ensures { λ x. ⌜ x ≡ a + value 8 r ⌝ }
+{
+    if r < 377348994 {
+        return below_48_8(r, below(48, 377348994, 8, 64, r, a));
+    }
+    let j = rows(48, 16, 377348994, 8, 64, r, a);
+    let t = middle(48, 8, j, 8, r);
+    let j = half(48, 8, j, t, halves_low::upper_8(t), 8, r);
+    let t = middle(48, 4, j, 8, r);
+    let j = half(48, 4, j, t, halves_low::upper_8(t), 8, r);
+    let t = middle(48, 2, j, 8, r);
+    let j = half(48, 2, j, t, halves_low::upper_8(t), 8, r);
+    let t = middle(48, 1, j, 8, r);
+    let j = half(48, 1, j, t, halves_low::upper_8(t), 8, r);
+    let t = 48 + j;
+    let c = halves_low::upper_8(t);
+    let x = with(48, j, t, c, 8, 64, r, a);
+    below_64_7(r - c, x)
+}
+
+fn below_64_9(r: u64, a: u64) -> u64
+    requires { ⌜ Sought 64 9 64 r a ⌝ }
+    ensures { λ x. ⌜ x ≡ a + value 9 r ⌝ }
+{
+    if r < 1677106640 {
+        return below_48_9(r, below(48, 1677106640, 9, 64, r, a));
+    }
+    let j = rows(48, 16, 1677106640, 9, 64, r, a);
+    let t = middle(48, 8, j, 9, r);
+    let j = half(48, 8, j, t, halves_low::upper_9(t), 9, r);
+    let t = middle(48, 4, j, 9, r);
+    let j = half(48, 4, j, t, halves_low::upper_9(t), 9, r);
+    let t = middle(48, 2, j, 9, r);
+    let j = half(48, 2, j, t, halves_low::upper_9(t), 9, r);
+    let t = middle(48, 1, j, 9, r);
+    let j = half(48, 1, j, t, halves_low::upper_9(t), 9, r);
+    let t = 48 + j;
+    let c = halves_low::upper_9(t);
+    let x = with(48, j, t, c, 9, 64, r, a);
+    below_64_8(r - c, x)
+}
+
+fn below_64_10(r: u64, a: u64) -> u64
+    requires { ⌜ Sought 64 10 64 r a ⌝ }
+    ensures { λ x. ⌜ x ≡ a + value 10 r ⌝ }
+{
+    if r < 6540715896 {
+        return below_48_10(r, below(48, 6540715896, 10, 64, r, a));
+    }
+    let j = rows(48, 16, 6540715896, 10, 64, r, a);
+    let t = middle(48, 8, j, 10, r);
+    let j = half(48, 8, j, t, halves_low::upper_10(t), 10, r);
+    let t = middle(48, 4, j, 10, r);
+    let j = half(48, 4, j, t, halves_low::upper_10(t), 10, r);
+    let t = middle(48, 2, j, 10, r);
+    let j = half(48, 2, j, t, halves_low::upper_10(t), 10, r);
+    let t = middle(48, 1, j, 10, r);
+    let j = half(48, 1, j, t, halves_low::upper_10(t), 10, r);
+    let t = 48 + j;
+    let c = halves_low::upper_10(t);
+    let x = with(48, j, t, c, 10, 64, r, a);
+    below_64_9(r - c, x)
+}
+
+fn below_64_11(r: u64, a: u64) -> u64
+    requires { ⌜ Sought 64 11 64 r a ⌝ }
+    ensures { λ x. ⌜ x ≡ a + value 11 r ⌝ }
+{
+    if r < 22595200368 {
+        return below_48_11(r, below(48, 22595200368, 11, 64, r, a));
+    }
+    let j = rows(48, 16, 22595200368, 11, 64, r, a);
+    let t = middle(48, 8, j, 11, r);
+    let j = half(48, 8, j, t, halves_low::upper_11(t), 11, r);
+    let t = middle(48, 4, j, 11, r);
+    let j = half(48, 4, j, t, halves_low::upper_11(t), 11, r);
+    let t = middle(48, 2, j, 11, r);
+    let j = half(48, 2, j, t, halves_low::upper_11(t), 11, r);
+    let t = middle(48, 1, j, 11, r);
+    let j = half(48, 1, j, t, halves_low::upper_11(t), 11, r);
+    let t = 48 + j;
+    let c = halves_low::upper_11(t);
+    let x = with(48, j, t, c, 11, 64, r, a);
+    below_64_10(r - c, x)
+}
+
+fn below_64_12(r: u64, a: u64) -> u64
+    requires { ⌜ Sought 64 12 64 r a ⌝ }
+    ensures { λ x. ⌜ x ≡ a + value 12 r ⌝ }
+{
+    if r < 69668534468 {
+        return below_48_12(r, below(48, 69668534468, 12, 64, r, a));
+    }
+    let j = rows(48, 16, 69668534468, 12, 64, r, a);
+    let t = middle(48, 8, j, 12, r);
+    let j = half(48, 8, j, t, halves_low::upper_12(t), 12, r);
+    let t = middle(48, 4, j, 12, r);
+    let j = half(48, 4, j, t, halves_low::upper_12(t), 12, r);
+    let t = middle(48, 2, j, 12, r);
+    let j = half(48, 2, j, t, halves_low::upper_12(t), 12, r);
+    let t = middle(48, 1, j, 12, r);
+    let j = half(48, 1, j, t, halves_low::upper_12(t), 12, r);
+    let t = 48 + j;
+    let c = halves_low::upper_12(t);
+    let x = with(48, j, t, c, 12, 64, r, a);
+    below_64_11(r - c, x)
+}
+
+fn below_64_13(r: u64, a: u64) -> u64
+    requires { ⌜ Sought 64 13 64 r a ⌝ }
+    ensures { λ x. ⌜ x ≡ a + value 13 r ⌝ }
+{
+    if r < 192928249296 {
+        return below_48_13(r, below(48, 192928249296, 13, 64, r, a));
+    }
+    let j = rows(48, 16, 192928249296, 13, 64, r, a);
+    let t = middle(48, 8, j, 13, r);
+    let j = half(48, 8, j, t, halves_low::upper_13(t), 13, r);
+    let t = middle(48, 4, j, 13, r);
+    let j = half(48, 4, j, t, halves_low::upper_13(t), 13, r);
+    let t = middle(48, 2, j, 13, r);
+    let j = half(48, 2, j, t, halves_low::upper_13(t), 13, r);
+    let t = middle(48, 1, j, 13, r);
+    let j = half(48, 1, j, t, halves_low::upper_13(t), 13, r);
+    let t = 48 + j;
+    let c = halves_low::upper_13(t);
+    let x = with(48, j, t, c, 13, 64, r, a);
+    below_64_12(r - c, x)
+}
+
+fn below_64_14(r: u64, a: u64) -> u64
+    requires { ⌜ Sought 64 14 64 r a ⌝ }
+    ensures { λ x. ⌜ x ≡ a + value 14 r ⌝ }
+{
+    if r < 482320623240 {
+        return below_48_14(r, below(48, 482320623240, 14, 64, r, a));
+    }
+    let j = rows(48, 16, 482320623240, 14, 64, r, a);
+    let t = middle(48, 8, j, 14, r);
+    let j = half(48, 8, j, t, halves_low::upper_14(t), 14, r);
+    let t = middle(48, 4, j, 14, r);
+    let j = half(48, 4, j, t, halves_low::upper_14(t), 14, r);
+    let t = middle(48, 2, j, 14, r);
+    let j = half(48, 2, j, t, halves_low::upper_14(t), 14, r);
+    let t = middle(48, 1, j, 14, r);
+    let j = half(48, 1, j, t, halves_low::upper_14(t), 14, r);
+    let t = 48 + j;
+    let c = halves_low::upper_14(t);
+    let x = with(48, j, t, c, 14, 64, r, a);
+    below_64_13(r - c, x)
+}
+
+fn below_64_15(r: u64, a: u64) -> u64
+    requires { ⌜ Sought 64 15 64 r a ⌝ }
+    ensures { λ x. ⌜ x ≡ a + value 15 r ⌝ }
+{
+    if r < 1093260079344 {
+        return below_48_15(r, below(48, 1093260079344, 15, 64, r, a));
+    }
+    let j = rows(48, 16, 1093260079344, 15, 64, r, a);
+    let t = middle(48, 8, j, 15, r);
+    let j = half(48, 8, j, t, halves_low::upper_15(t), 15, r);
+    let t = middle(48, 4, j, 15, r);
+    let j = half(48, 4, j, t, halves_low::upper_15(t), 15, r);
+    let t = middle(48, 2, j, 15, r);
+    let j = half(48, 2, j, t, halves_low::upper_15(t), 15, r);
+    let t = middle(48, 1, j, 15, r);
+    let j = half(48, 1, j, t, halves_low::upper_15(t), 15, r);
+    let t = 48 + j;
+    let c = halves_low::upper_15(t);
+    let x = with(48, j, t, c, 15, 64, r, a);
+    below_64_14(r - c, x)
+}
+
+fn below_64_16(r: u64, a: u64) -> u64
+    requires { ⌜ Sought 64 16 64 r a ⌝ }
+    ensures { λ x. ⌜ x ≡ a + value 16 r ⌝ }
+{
+    if r < 2254848913647 {
+        return below_48_16(r, below(48, 2254848913647, 16, 64, r, a));
+    }
+    let j = rows(48, 16, 2254848913647, 16, 64, r, a);
+    let t = middle(48, 8, j, 16, r);
+    let j = half(48, 8, j, t, halves_low::upper_16(t), 16, r);
+    let t = middle(48, 4, j, 16, r);
+    let j = half(48, 4, j, t, halves_low::upper_16(t), 16, r);
+    let t = middle(48, 2, j, 16, r);
+    let j = half(48, 2, j, t, halves_low::upper_16(t), 16, r);
+    let t = middle(48, 1, j, 16, r);
+    let j = half(48, 1, j, t, halves_low::upper_16(t), 16, r);
+    let t = 48 + j;
+    let c = halves_low::upper_16(t);
+    let x = with(48, j, t, c, 16, 64, r, a);
+    below_64_15(r - c, x)
+}
+
+fn below_64_17(r: u64, a: u64) -> u64
+    requires { ⌜ Sought 64 17 64 r a ⌝ }
+    ensures { λ x. ⌜ x ≡ a + value 17 r ⌝ }
+{
+    if r < 4244421484512 {
+        return below_48_17(r, below(48, 4244421484512, 17, 64, r, a));
+    }
+    let j = rows(48, 16, 4244421484512, 17, 64, r, a);
+    let t = middle(48, 8, j, 17, r);
+    let j = half(48, 8, j, t, halves_high::upper_17(t), 17, r);
+    let t = middle(48, 4, j, 17, r);
+    let j = half(48, 4, j, t, halves_high::upper_17(t), 17, r);
+    let t = middle(48, 2, j, 17, r);
+    let j = half(48, 2, j, t, halves_high::upper_17(t), 17, r);
+    let t = middle(48, 1, j, 17, r);
+    let j = half(48, 1, j, t, halves_high::upper_17(t), 17, r);
+    let t = 48 + j;
+    let c = halves_high::upper_17(t);
+    let x = with(48, j, t, c, 17, 64, r, a);
+    below_64_16(r - c, x)
+}
+
+fn below_64_18(r: u64, a: u64) -> u64
+    requires { ⌜ Sought 64 18 64 r a ⌝ }
+    ensures { λ x. ⌜ x ≡ a + value 18 r ⌝ }
+{
+    if r < 7309837001104 {
+        return below_48_18(r, below(48, 7309837001104, 18, 64, r, a));
+    }
+    let j = rows(48, 16, 7309837001104, 18, 64, r, a);
+    let t = middle(48, 8, j, 18, r);
+    let j = half(48, 8, j, t, halves_high::upper_18(t), 18, r);
+    let t = middle(48, 4, j, 18, r);
+    let j = half(48, 4, j, t, halves_high::upper_18(t), 18, r);
+    let t = middle(48, 2, j, 18, r);
+    let j = half(48, 2, j, t, halves_high::upper_18(t), 18, r);
+    let t = middle(48, 1, j, 18, r);
+    let j = half(48, 1, j, t, halves_high::upper_18(t), 18, r);
+    let t = 48 + j;
+    let c = halves_high::upper_18(t);
+    let x = with(48, j, t, c, 18, 64, r, a);
+    below_64_17(r - c, x)
+}
+
+fn below_64_19(r: u64, a: u64) -> u64
+    requires { ⌜ Sought 64 19 64 r a ⌝ }
+    ensures { λ x. ⌜ x ≡ a + value 19 r ⌝ }
+{
+    if r < 11541847896480 {
+        return below_48_19(r, below(48, 11541847896480, 19, 64, r, a));
+    }
+    let j = rows(48, 16, 11541847896480, 19, 64, r, a);
+    let t = middle(48, 8, j, 19, r);
+    let j = half(48, 8, j, t, halves_high::upper_19(t), 19, r);
+    let t = middle(48, 4, j, 19, r);
+    let j = half(48, 4, j, t, halves_high::upper_19(t), 19, r);
+    let t = middle(48, 2, j, 19, r);
+    let j = half(48, 2, j, t, halves_high::upper_19(t), 19, r);
+    let t = middle(48, 1, j, 19, r);
+    let j = half(48, 1, j, t, halves_high::upper_19(t), 19, r);
+    let t = 48 + j;
+    let c = halves_high::upper_19(t);
+    let x = with(48, j, t, c, 19, 64, r, a);
+    below_64_18(r - c, x)
+}
+
+fn below_64_20(r: u64, a: u64) -> u64
+    requires { ⌜ Sought 64 20 64 r a ⌝ }
+    ensures { λ x. ⌜ x ≡ a + value 20 r ⌝ }
+{
+    if r < 16735679449896 {
+        return below_48_20(r, below(48, 16735679449896, 20, 64, r, a));
+    }
+    let j = rows(48, 16, 16735679449896, 20, 64, r, a);
+    let t = middle(48, 8, j, 20, r);
+    let j = half(48, 8, j, t, halves_high::upper_20(t), 20, r);
+    let t = middle(48, 4, j, 20, r);
+    let j = half(48, 4, j, t, halves_high::upper_20(t), 20, r);
+    let t = middle(48, 2, j, 20, r);
+    let j = half(48, 2, j, t, halves_high::upper_20(t), 20, r);
+    let t = middle(48, 1, j, 20, r);
+    let j = half(48, 1, j, t, halves_high::upper_20(t), 20, r);
+    let t = 48 + j;
+    let c = halves_high::upper_20(t);
+    let x = with(48, j, t, c, 20, 64, r, a);
+    below_64_19(r - c, x)
+}
+
+fn below_64_21(r: u64, a: u64) -> u64
+    requires { ⌜ Sought 64 21 64 r a ⌝ }
+    ensures { λ x. ⌜ x ≡ a + value 21 r ⌝ }
+{
+    if r < 22314239266528 {
+        return below_48_21(r, below(48, 22314239266528, 21, 64, r, a));
+    }
+    let j = rows(48, 16, 22314239266528, 21, 64, r, a);
+    let t = middle(48, 8, j, 21, r);
+    let j = half(48, 8, j, t, halves_high::upper_21(t), 21, r);
+    let t = middle(48, 4, j, 21, r);
+    let j = half(48, 4, j, t, halves_high::upper_21(t), 21, r);
+    let t = middle(48, 2, j, 21, r);
+    let j = half(48, 2, j, t, halves_high::upper_21(t), 21, r);
+    let t = middle(48, 1, j, 21, r);
+    let j = half(48, 1, j, t, halves_high::upper_21(t), 21, r);
+    let t = 48 + j;
+    let c = halves_high::upper_21(t);
+    let x = with(48, j, t, c, 21, 64, r, a);
+    below_64_20(r - c, x)
+}
+
+fn below_64_22(r: u64, a: u64) -> u64
+    requires { ⌜ Sought 64 22 64 r a ⌝ }
+    ensures { λ x. ⌜ x ≡ a + value 22 r ⌝ }
+{
+    if r < 27385657281648 {
+        return below_48_22(r, below(48, 27385657281648, 22, 64, r, a));
+    }
+    let j = rows(48, 16, 27385657281648, 22, 64, r, a);
+    let t = middle(48, 8, j, 22, r);
+    let j = half(48, 8, j, t, halves_high::upper_22(t), 22, r);
+    let t = middle(48, 4, j, 22, r);
+    let j = half(48, 4, j, t, halves_high::upper_22(t), 22, r);
+    let t = middle(48, 2, j, 22, r);
+    let j = half(48, 2, j, t, halves_high::upper_22(t), 22, r);
+    let t = middle(48, 1, j, 22, r);
+    let j = half(48, 1, j, t, halves_high::upper_22(t), 22, r);
+    let t = 48 + j;
+    let c = halves_high::upper_22(t);
+    let x = with(48, j, t, c, 22, 64, r, a);
+    below_64_21(r - c, x)
+}
+
+fn below_64_23(r: u64, a: u64) -> u64
+    requires { ⌜ Sought 64 23 64 r a ⌝ }
+    ensures { λ x. ⌜ x ≡ a + value 23 r ⌝ }
+{
+    if r < 30957699535776 {
+        return below_48_23(r, below(48, 30957699535776, 23, 64, r, a));
+    }
+    let j = rows(48, 16, 30957699535776, 23, 64, r, a);
+    let t = middle(48, 8, j, 23, r);
+    let j = half(48, 8, j, t, halves_high::upper_23(t), 23, r);
+    let t = middle(48, 4, j, 23, r);
+    let j = half(48, 4, j, t, halves_high::upper_23(t), 23, r);
+    let t = middle(48, 2, j, 23, r);
+    let j = half(48, 2, j, t, halves_high::upper_23(t), 23, r);
+    let t = middle(48, 1, j, 23, r);
+    let j = half(48, 1, j, t, halves_high::upper_23(t), 23, r);
+    let t = 48 + j;
+    let c = halves_high::upper_23(t);
+    let x = with(48, j, t, c, 23, 64, r, a);
+    below_64_22(r - c, x)
+}
+
+fn below_64_24(r: u64, a: u64) -> u64
+    requires { ⌜ Sought 64 24 64 r a ⌝ }
+    ensures { λ x. ⌜ x ≡ a + value 24 r ⌝ }
+{
+    if r < 32247603683100 {
+        return below_48_24(r, below(48, 32247603683100, 24, 64, r, a));
+    }
+    let j = rows(48, 16, 32247603683100, 24, 64, r, a);
+    let t = middle(48, 8, j, 24, r);
+    let j = half(48, 8, j, t, halves_high::upper_24(t), 24, r);
+    let t = middle(48, 4, j, 24, r);
+    let j = half(48, 4, j, t, halves_high::upper_24(t), 24, r);
+    let t = middle(48, 2, j, 24, r);
+    let j = half(48, 2, j, t, halves_high::upper_24(t), 24, r);
+    let t = middle(48, 1, j, 24, r);
+    let j = half(48, 1, j, t, halves_high::upper_24(t), 24, r);
+    let t = 48 + j;
+    let c = halves_high::upper_24(t);
+    let x = with(48, j, t, c, 24, 64, r, a);
+    below_64_23(r - c, x)
+}
+
+fn below_64_25(r: u64, a: u64) -> u64
+    requires { ⌜ Sought 64 25 64 r a ⌝ }
+    ensures { λ x. ⌜ x ≡ a + value 25 r ⌝ }
+{
+    if r < 30957699535776 {
+        return below_48_25(r, below(48, 30957699535776, 25, 64, r, a));
+    }
+    let j = rows(48, 16, 30957699535776, 25, 64, r, a);
+    let t = middle(48, 8, j, 25, r);
+    let j = half(48, 8, j, t, halves_high::upper_25(t), 25, r);
+    let t = middle(48, 4, j, 25, r);
+    let j = half(48, 4, j, t, halves_high::upper_25(t), 25, r);
+    let t = middle(48, 2, j, 25, r);
+    let j = half(48, 2, j, t, halves_high::upper_25(t), 25, r);
+    let t = middle(48, 1, j, 25, r);
+    let j = half(48, 1, j, t, halves_high::upper_25(t), 25, r);
+    let t = 48 + j;
+    let c = halves_high::upper_25(t);
+    let x = with(48, j, t, c, 25, 64, r, a);
+    below_64_24(r - c, x)
+}
+
+fn below_64_26(r: u64, a: u64) -> u64
+    requires { ⌜ Sought 64 26 64 r a ⌝ }
+    ensures { λ x. ⌜ x ≡ a + value 26 r ⌝ }
+{
+    if r < 27385657281648 {
+        return below_48_26(r, below(48, 27385657281648, 26, 64, r, a));
+    }
+    let j = rows(48, 16, 27385657281648, 26, 64, r, a);
+    let t = middle(48, 8, j, 26, r);
+    let j = half(48, 8, j, t, halves_high::upper_26(t), 26, r);
+    let t = middle(48, 4, j, 26, r);
+    let j = half(48, 4, j, t, halves_high::upper_26(t), 26, r);
+    let t = middle(48, 2, j, 26, r);
+    let j = half(48, 2, j, t, halves_high::upper_26(t), 26, r);
+    let t = middle(48, 1, j, 26, r);
+    let j = half(48, 1, j, t, halves_high::upper_26(t), 26, r);
+    let t = 48 + j;
+    let c = halves_high::upper_26(t);
+    let x = with(48, j, t, c, 26, 64, r, a);
+    below_64_25(r - c, x)
+}
+
+fn below_64_27(r: u64, a: u64) -> u64
+    requires { ⌜ Sought 64 27 64 r a ⌝ }
+    ensures { λ x. ⌜ x ≡ a + value 27 r ⌝ }
+{
+    if r < 22314239266528 {
+        return below_48_27(r, below(48, 22314239266528, 27, 64, r, a));
+    }
+    let j = rows(48, 16, 22314239266528, 27, 64, r, a);
+    let t = middle(48, 8, j, 27, r);
+    let j = half(48, 8, j, t, halves_high::upper_27(t), 27, r);
+    let t = middle(48, 4, j, 27, r);
+    let j = half(48, 4, j, t, halves_high::upper_27(t), 27, r);
+    let t = middle(48, 2, j, 27, r);
+    let j = half(48, 2, j, t, halves_high::upper_27(t), 27, r);
+    let t = middle(48, 1, j, 27, r);
+    let j = half(48, 1, j, t, halves_high::upper_27(t), 27, r);
+    let t = 48 + j;
+    let c = halves_high::upper_27(t);
+    let x = with(48, j, t, c, 27, 64, r, a);
+    below_64_26(r - c, x)
+}
+
+fn below_64_28(r: u64, a: u64) -> u64
+    requires { ⌜ Sought 64 28 64 r a ⌝ }
+    ensures { λ x. ⌜ x ≡ a + value 28 r ⌝ }
+{
+    if r < 16735679449896 {
+        return below_48_28(r, below(48, 16735679449896, 28, 64, r, a));
+    }
+    let j = rows(48, 16, 16735679449896, 28, 64, r, a);
+    let t = middle(48, 8, j, 28, r);
+    let j = half(48, 8, j, t, halves_high::upper_28(t), 28, r);
+    let t = middle(48, 4, j, 28, r);
+    let j = half(48, 4, j, t, halves_high::upper_28(t), 28, r);
+    let t = middle(48, 2, j, 28, r);
+    let j = half(48, 2, j, t, halves_high::upper_28(t), 28, r);
+    let t = middle(48, 1, j, 28, r);
+    let j = half(48, 1, j, t, halves_high::upper_28(t), 28, r);
+    let t = 48 + j;
+    let c = halves_high::upper_28(t);
+    let x = with(48, j, t, c, 28, 64, r, a);
+    below_64_27(r - c, x)
+}
+
+fn below_64_29(r: u64, a: u64) -> u64
+    requires { ⌜ Sought 64 29 64 r a ⌝ }
+    ensures { λ x. ⌜ x ≡ a + value 29 r ⌝ }
+{
+    if r < 11541847896480 {
+        return below_48_29(r, below(48, 11541847896480, 29, 64, r, a));
+    }
+    let j = rows(48, 16, 11541847896480, 29, 64, r, a);
+    let t = middle(48, 8, j, 29, r);
+    let j = half(48, 8, j, t, halves_high::upper_29(t), 29, r);
+    let t = middle(48, 4, j, 29, r);
+    let j = half(48, 4, j, t, halves_high::upper_29(t), 29, r);
+    let t = middle(48, 2, j, 29, r);
+    let j = half(48, 2, j, t, halves_high::upper_29(t), 29, r);
+    let t = middle(48, 1, j, 29, r);
+    let j = half(48, 1, j, t, halves_high::upper_29(t), 29, r);
+    let t = 48 + j;
+    let c = halves_high::upper_29(t);
+    let x = with(48, j, t, c, 29, 64, r, a);
+    below_64_28(r - c, x)
+}
+
+fn below_64_30(r: u64, a: u64) -> u64
+    requires { ⌜ Sought 64 30 64 r a ⌝ }
+    ensures { λ x. ⌜ x ≡ a + value 30 r ⌝ }
+{
+    if r < 7309837001104 {
+        return below_48_30(r, below(48, 7309837001104, 30, 64, r, a));
+    }
+    let j = rows(48, 16, 7309837001104, 30, 64, r, a);
+    let t = middle(48, 8, j, 30, r);
+    let j = half(48, 8, j, t, halves_high::upper_30(t), 30, r);
+    let t = middle(48, 4, j, 30, r);
+    let j = half(48, 4, j, t, halves_high::upper_30(t), 30, r);
+    let t = middle(48, 2, j, 30, r);
+    let j = half(48, 2, j, t, halves_high::upper_30(t), 30, r);
+    let t = middle(48, 1, j, 30, r);
+    let j = half(48, 1, j, t, halves_high::upper_30(t), 30, r);
+    let t = 48 + j;
+    let c = halves_high::upper_30(t);
+    let x = with(48, j, t, c, 30, 64, r, a);
+    below_64_29(r - c, x)
+}
+
+fn below_64_31(r: u64, a: u64) -> u64
+    requires { ⌜ Sought 64 31 64 r a ⌝ }
+    ensures { λ x. ⌜ x ≡ a + value 31 r ⌝ }
+{
+    if r < 4244421484512 {
+        return below_48_31(r, below(48, 4244421484512, 31, 64, r, a));
+    }
+    let j = rows(48, 16, 4244421484512, 31, 64, r, a);
+    let t = middle(48, 8, j, 31, r);
+    let j = half(48, 8, j, t, halves_high::upper_31(t), 31, r);
+    let t = middle(48, 4, j, 31, r);
+    let j = half(48, 4, j, t, halves_high::upper_31(t), 31, r);
+    let t = middle(48, 2, j, 31, r);
+    let j = half(48, 2, j, t, halves_high::upper_31(t), 31, r);
+    let t = middle(48, 1, j, 31, r);
+    let j = half(48, 1, j, t, halves_high::upper_31(t), 31, r);
+    let t = 48 + j;
+    let c = halves_high::upper_31(t);
+    let x = with(48, j, t, c, 31, 64, r, a);
+    below_64_30(r - c, x)
+}
+
+fn below_64_32(r: u64, a: u64) -> u64
+    requires { ⌜ Sought 64 32 64 r a ⌝ }
     ensures { λ x. ⌜ x ≡ a + value 32 r ⌝ }
 {
-    if 1 <= r {
-        let j = above_32(s, r, a);
-        let t = 32 + j;
-        let c = halves_high::upper_32(t);
-        let x = with(32, j, t, c, 32, s, r, a);
-        return from_31(t, r - c, x);
+    if r < 2254848913647 {
+        return below_48_32(r, below(48, 2254848913647, 32, 64, r, a));
     }
-    let j = below_32(s, r, a);
-    let t = 31 + j;
-    let c = halves_high::lower_32(t);
-    let x = with(31, j, t, c, 32, s, r, a);
-    from_31(t, r - c, x)
+    let j = rows(48, 16, 2254848913647, 32, 64, r, a);
+    let t = middle(48, 8, j, 32, r);
+    let j = half(48, 8, j, t, halves_high::upper_32(t), 32, r);
+    let t = middle(48, 4, j, 32, r);
+    let j = half(48, 4, j, t, halves_high::upper_32(t), 32, r);
+    let t = middle(48, 2, j, 32, r);
+    let j = half(48, 2, j, t, halves_high::upper_32(t), 32, r);
+    let t = middle(48, 1, j, 32, r);
+    let j = half(48, 1, j, t, halves_high::upper_32(t), 32, r);
+    let t = 48 + j;
+    let c = halves_high::upper_32(t);
+    let x = with(48, j, t, c, 32, 64, r, a);
+    below_64_31(r - c, x)
 }
 
 // The set of k numbers below s that has the rank r.
@@ -1798,94 +2363,160 @@ pub fn set(k: u64, s: u64, r: u64) -> u64
                     if k < 1 {
                         return empty(k, r);
                     }
-                    return ended(last(begun(1, k, s, r), r, 0), 1, k, r);
+                    return ended(last(64, r, begun(64, 1, k, s, r)), 1, k, r);
                 }
                 if k < 3 {
-                    return ended(from_2(begun(2, k, s, r), r, 0), 2, k, r);
+                    if s <= 8 {
+                        return ended(below_8_2(r, begun(8, 2, k, s, r)), 2, k, r);
+                    }
+                    if s <= 16 {
+                        return ended(below_16_2(r, begun(16, 2, k, s, r)), 2, k, r);
+                    }
+                    return ended(below_64_2(r, begun(64, 2, k, s, r)), 2, k, r);
                 }
-                return ended(from_3(begun(3, k, s, r), r, 0), 3, k, r);
+                if s <= 8 {
+                    return ended(below_8_3(r, begun(8, 3, k, s, r)), 3, k, r);
+                }
+                if s <= 16 {
+                    return ended(below_16_3(r, begun(16, 3, k, s, r)), 3, k, r);
+                }
+                return ended(below_64_3(r, begun(64, 3, k, s, r)), 3, k, r);
             }
             if k < 6 {
                 if k < 5 {
-                    return ended(from_4(begun(4, k, s, r), r, 0), 4, k, r);
+                    if s <= 8 {
+                        return ended(below_8_4(r, begun(8, 4, k, s, r)), 4, k, r);
+                    }
+                    if s <= 16 {
+                        return ended(below_16_4(r, begun(16, 4, k, s, r)), 4, k, r);
+                    }
+                    return ended(below_64_4(r, begun(64, 4, k, s, r)), 4, k, r);
                 }
-                return ended(from_5(begun(5, k, s, r), r, 0), 5, k, r);
+                if s <= 8 {
+                    return ended(below_8_5(r, begun(8, 5, k, s, r)), 5, k, r);
+                }
+                if s <= 16 {
+                    return ended(below_16_5(r, begun(16, 5, k, s, r)), 5, k, r);
+                }
+                return ended(below_64_5(r, begun(64, 5, k, s, r)), 5, k, r);
             }
             if k < 7 {
-                return ended(from_6(begun(6, k, s, r), r, 0), 6, k, r);
+                if s <= 8 {
+                    return ended(below_8_6(r, begun(8, 6, k, s, r)), 6, k, r);
+                }
+                if s <= 16 {
+                    return ended(below_16_6(r, begun(16, 6, k, s, r)), 6, k, r);
+                }
+                return ended(below_64_6(r, begun(64, 6, k, s, r)), 6, k, r);
             }
-            return ended(from_7(begun(7, k, s, r), r, 0), 7, k, r);
+            if s <= 8 {
+                return ended(below_8_7(r, begun(8, 7, k, s, r)), 7, k, r);
+            }
+            if s <= 16 {
+                return ended(below_16_7(r, begun(16, 7, k, s, r)), 7, k, r);
+            }
+            return ended(below_64_7(r, begun(64, 7, k, s, r)), 7, k, r);
         }
         if k < 12 {
             if k < 10 {
                 if k < 9 {
-                    return ended(from_8(begun(8, k, s, r), r, 0), 8, k, r);
+                    if s <= 8 {
+                        return ended(below_8_8(r, begun(8, 8, k, s, r)), 8, k, r);
+                    }
+                    if s <= 16 {
+                        return ended(below_16_8(r, begun(16, 8, k, s, r)), 8, k, r);
+                    }
+                    return ended(below_64_8(r, begun(64, 8, k, s, r)), 8, k, r);
                 }
-                return ended(from_9(begun(9, k, s, r), r, 0), 9, k, r);
+                if s <= 16 {
+                    return ended(below_16_9(r, begun(16, 9, k, s, r)), 9, k, r);
+                }
+                return ended(below_64_9(r, begun(64, 9, k, s, r)), 9, k, r);
             }
             if k < 11 {
-                return ended(from_10(begun(10, k, s, r), r, 0), 10, k, r);
+                if s <= 16 {
+                    return ended(below_16_10(r, begun(16, 10, k, s, r)), 10, k, r);
+                }
+                return ended(below_64_10(r, begun(64, 10, k, s, r)), 10, k, r);
             }
-            return ended(from_11(begun(11, k, s, r), r, 0), 11, k, r);
+            if s <= 16 {
+                return ended(below_16_11(r, begun(16, 11, k, s, r)), 11, k, r);
+            }
+            return ended(below_64_11(r, begun(64, 11, k, s, r)), 11, k, r);
         }
         if k < 14 {
             if k < 13 {
-                return ended(from_12(begun(12, k, s, r), r, 0), 12, k, r);
+                if s <= 16 {
+                    return ended(below_16_12(r, begun(16, 12, k, s, r)), 12, k, r);
+                }
+                return ended(below_64_12(r, begun(64, 12, k, s, r)), 12, k, r);
             }
-            return ended(from_13(begun(13, k, s, r), r, 0), 13, k, r);
+            if s <= 16 {
+                return ended(below_16_13(r, begun(16, 13, k, s, r)), 13, k, r);
+            }
+            return ended(below_64_13(r, begun(64, 13, k, s, r)), 13, k, r);
         }
         if k < 15 {
-            return ended(from_14(begun(14, k, s, r), r, 0), 14, k, r);
+            if s <= 16 {
+                return ended(below_16_14(r, begun(16, 14, k, s, r)), 14, k, r);
+            }
+            return ended(below_64_14(r, begun(64, 14, k, s, r)), 14, k, r);
         }
-        return ended(from_15(begun(15, k, s, r), r, 0), 15, k, r);
+        if s <= 16 {
+            return ended(below_16_15(r, begun(16, 15, k, s, r)), 15, k, r);
+        }
+        return ended(below_64_15(r, begun(64, 15, k, s, r)), 15, k, r);
     }
     if k < 24 {
         if k < 20 {
             if k < 18 {
                 if k < 17 {
-                    return ended(from_16(begun(16, k, s, r), r, 0), 16, k, r);
+                    if s <= 16 {
+                        return ended(below_16_16(r, begun(16, 16, k, s, r)), 16, k, r);
+                    }
+                    return ended(below_64_16(r, begun(64, 16, k, s, r)), 16, k, r);
                 }
-                return ended(from_17(begun(17, k, s, r), r, 0), 17, k, r);
+                return ended(below_64_17(r, begun(64, 17, k, s, r)), 17, k, r);
             }
             if k < 19 {
-                return ended(from_18(begun(18, k, s, r), r, 0), 18, k, r);
+                return ended(below_64_18(r, begun(64, 18, k, s, r)), 18, k, r);
             }
-            return ended(from_19(begun(19, k, s, r), r, 0), 19, k, r);
+            return ended(below_64_19(r, begun(64, 19, k, s, r)), 19, k, r);
         }
         if k < 22 {
             if k < 21 {
-                return ended(from_20(begun(20, k, s, r), r, 0), 20, k, r);
+                return ended(below_64_20(r, begun(64, 20, k, s, r)), 20, k, r);
             }
-            return ended(from_21(begun(21, k, s, r), r, 0), 21, k, r);
+            return ended(below_64_21(r, begun(64, 21, k, s, r)), 21, k, r);
         }
         if k < 23 {
-            return ended(from_22(begun(22, k, s, r), r, 0), 22, k, r);
+            return ended(below_64_22(r, begun(64, 22, k, s, r)), 22, k, r);
         }
-        return ended(from_23(begun(23, k, s, r), r, 0), 23, k, r);
+        return ended(below_64_23(r, begun(64, 23, k, s, r)), 23, k, r);
     }
     if k < 28 {
         if k < 26 {
             if k < 25 {
-                return ended(from_24(begun(24, k, s, r), r, 0), 24, k, r);
+                return ended(below_64_24(r, begun(64, 24, k, s, r)), 24, k, r);
             }
-            return ended(from_25(begun(25, k, s, r), r, 0), 25, k, r);
+            return ended(below_64_25(r, begun(64, 25, k, s, r)), 25, k, r);
         }
         if k < 27 {
-            return ended(from_26(begun(26, k, s, r), r, 0), 26, k, r);
+            return ended(below_64_26(r, begun(64, 26, k, s, r)), 26, k, r);
         }
-        return ended(from_27(begun(27, k, s, r), r, 0), 27, k, r);
+        return ended(below_64_27(r, begun(64, 27, k, s, r)), 27, k, r);
     }
     if k < 30 {
         if k < 29 {
-            return ended(from_28(begun(28, k, s, r), r, 0), 28, k, r);
+            return ended(below_64_28(r, begun(64, 28, k, s, r)), 28, k, r);
         }
-        return ended(from_29(begun(29, k, s, r), r, 0), 29, k, r);
+        return ended(below_64_29(r, begun(64, 29, k, s, r)), 29, k, r);
     }
     if k < 31 {
-        return ended(from_30(begun(30, k, s, r), r, 0), 30, k, r);
+        return ended(below_64_30(r, begun(64, 30, k, s, r)), 30, k, r);
     }
     if k < 32 {
-        return ended(from_31(begun(31, k, s, r), r, 0), 31, k, r);
+        return ended(below_64_31(r, begun(64, 31, k, s, r)), 31, k, r);
     }
-    ended(from_32(begun(32, k, s, r), r, 0), 32, k, r)
+    ended(below_64_32(r, begun(64, 32, k, s, r)), 32, k, r)
 }

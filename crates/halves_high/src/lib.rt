@@ -26,7 +26,7 @@ pub fn lower_17(n: u64) -> u64
         29 => 51895935,
         30 => 119759850,
         31 => 265182525,
-        _ => pascal::recurrence(n, 17),
+        _ => columns_high::column_17(n),
     }
 }
 
@@ -67,7 +67,7 @@ pub fn upper_17(n: u64) -> u64
         61 => 536830054536825,
         62 => 739632519584070,
         63 => 1012974972473835,
-        _ => pascal::recurrence(n, 17),
+        _ => columns_high::column_17(n),
     }
 }
 
@@ -92,7 +92,7 @@ pub fn lower_18(n: u64) -> u64
         29 => 34597290,
         30 => 86493225,
         31 => 206253075,
-        _ => pascal::recurrence(n, 18),
+        _ => columns_high::column_18(n),
     }
 }
 
@@ -133,7 +133,7 @@ pub fn upper_18(n: u64) -> u64
         61 => 1312251244423350,
         62 => 1849081298960175,
         63 => 2588713818544245,
-        _ => pascal::recurrence(n, 18),
+        _ => columns_high::column_18(n),
     }
 }
 
@@ -158,7 +158,7 @@ pub fn lower_19(n: u64) -> u64
         29 => 20030010,
         30 => 54627300,
         31 => 141120525,
-        _ => pascal::recurrence(n, 19),
+        _ => columns_high::column_19(n),
     }
 }
 
@@ -199,7 +199,7 @@ pub fn upper_19(n: u64) -> u64
         61 => 2969831763694950,
         62 => 4282083008118300,
         63 => 6131164307078475,
-        _ => pascal::recurrence(n, 19),
+        _ => columns_high::column_19(n),
     }
 }
 
@@ -224,7 +224,7 @@ pub fn lower_20(n: u64) -> u64
         29 => 10015005,
         30 => 30045015,
         31 => 84672315,
-        _ => pascal::recurrence(n, 20),
+        _ => columns_high::column_20(n),
     }
 }
 
@@ -265,7 +265,7 @@ pub fn upper_20(n: u64) -> u64
         61 => 6236646703759395,
         62 => 9206478467454345,
         63 => 13488561475572645,
-        _ => pascal::recurrence(n, 20),
+        _ => columns_high::column_20(n),
     }
 }
 
@@ -290,7 +290,7 @@ pub fn lower_21(n: u64) -> u64
         29 => 4292145,
         30 => 14307150,
         31 => 44352165,
-        _ => pascal::recurrence(n, 21),
+        _ => columns_high::column_21(n),
     }
 }
 
@@ -331,7 +331,7 @@ pub fn upper_21(n: u64) -> u64
         61 => 12176310231149295,
         62 => 18412956934908690,
         63 => 27619435402363035,
-        _ => pascal::recurrence(n, 21),
+        _ => columns_high::column_21(n),
     }
 }
 
@@ -356,7 +356,7 @@ pub fn lower_22(n: u64) -> u64
         29 => 1560780,
         30 => 5852925,
         31 => 20160075,
-        _ => pascal::recurrence(n, 22),
+        _ => columns_high::column_22(n),
     }
 }
 
@@ -397,7 +397,7 @@ pub fn upper_22(n: u64) -> u64
         61 => 22138745874816900,
         62 => 34315056105966195,
         63 => 52728013040874885,
-        _ => pascal::recurrence(n, 22),
+        _ => columns_high::column_22(n),
     }
 }
 
@@ -422,7 +422,7 @@ pub fn lower_23(n: u64) -> u64
         29 => 475020,
         30 => 2035800,
         31 => 7888725,
-        _ => pascal::recurrence(n, 23),
+        _ => columns_high::column_23(n),
     }
 }
 
@@ -463,7 +463,7 @@ pub fn upper_23(n: u64) -> u64
         61 => 37539612570341700,
         62 => 59678358445158600,
         63 => 93993414551124795,
-        _ => pascal::recurrence(n, 23),
+        _ => columns_high::column_23(n),
     }
 }
 
@@ -488,7 +488,7 @@ pub fn lower_24(n: u64) -> u64
         29 => 118755,
         30 => 593775,
         31 => 2629575,
-        _ => pascal::recurrence(n, 24),
+        _ => columns_high::column_24(n),
     }
 }
 
@@ -529,7 +529,7 @@ pub fn upper_24(n: u64) -> u64
         61 => 59437719903041025,
         62 => 96977332473382725,
         63 => 156655690918541325,
-        _ => pascal::recurrence(n, 24),
+        _ => columns_high::column_24(n),
     }
 }
 
@@ -546,7 +546,7 @@ pub fn lower_25(n: u64) -> u64
         29 => 23751,
         30 => 142506,
         31 => 736281,
-        _ => pascal::recurrence(n, 25),
+        _ => columns_high::column_25(n),
     }
 }
 
@@ -587,7 +587,7 @@ pub fn upper_25(n: u64) -> u64
         61 => 87967825456500717,
         62 => 147405545359541742,
         63 => 244382877832924467,
-        _ => pascal::recurrence(n, 25),
+        _ => columns_high::column_25(n),
     }
 }
 
@@ -604,7 +604,7 @@ pub fn lower_26(n: u64) -> u64
         29 => 3654,
         30 => 27405,
         31 => 169911,
-        _ => pascal::recurrence(n, 26),
+        _ => columns_high::column_26(n),
     }
 }
 
@@ -645,7 +645,7 @@ pub fn upper_26(n: u64) -> u64
         61 => 121801604478231762,
         62 => 209769429934732479,
         63 => 357174975294274221,
-        _ => pascal::recurrence(n, 26),
+        _ => columns_high::column_26(n),
     }
 }
 
@@ -662,7 +662,7 @@ pub fn lower_27(n: u64) -> u64
         29 => 406,
         30 => 4060,
         31 => 31465,
-        _ => pascal::recurrence(n, 27),
+        _ => columns_high::column_27(n),
     }
 }
 
@@ -703,7 +703,7 @@ pub fn upper_27(n: u64) -> u64
         61 => 157890968768078210,
         62 => 279692573246309972,
         63 => 489462003181042451,
-        _ => pascal::recurrence(n, 27),
+        _ => columns_high::column_27(n),
     }
 }
 
@@ -720,7 +720,7 @@ pub fn lower_28(n: u64) -> u64
         29 => 29,
         30 => 435,
         31 => 4495,
-        _ => pascal::recurrence(n, 28),
+        _ => columns_high::column_28(n),
     }
 }
 
@@ -761,7 +761,7 @@ pub fn upper_28(n: u64) -> u64
         61 => 191724747789809255,
         62 => 349615716557887465,
         63 => 629308289804197437,
-        _ => pascal::recurrence(n, 28),
+        _ => columns_high::column_28(n),
     }
 }
 
@@ -774,7 +774,7 @@ pub fn lower_29(n: u64) -> u64
         29 => 1,
         30 => 30,
         31 => 465,
-        _ => pascal::recurrence(n, 29),
+        _ => columns_high::column_29(n),
     }
 }
 
@@ -815,7 +815,7 @@ pub fn upper_29(n: u64) -> u64
         61 => 218169540588403635,
         62 => 409894288378212890,
         63 => 759510004936100355,
-        _ => pascal::recurrence(n, 29),
+        _ => columns_high::column_29(n),
     }
 }
 
@@ -828,7 +828,7 @@ pub fn lower_30(n: u64) -> u64
         29 => 0,
         30 => 1,
         31 => 31,
-        _ => pascal::recurrence(n, 30),
+        _ => columns_high::column_30(n),
     }
 }
 
@@ -869,7 +869,7 @@ pub fn upper_30(n: u64) -> u64
         61 => 232714176627630544,
         62 => 450883717216034179,
         63 => 860778005594247069,
-        _ => pascal::recurrence(n, 30),
+        _ => columns_high::column_30(n),
     }
 }
 
@@ -880,7 +880,7 @@ pub fn lower_31(n: u64) -> u64
     match n {
         30 => 0,
         31 => 1,
-        _ => pascal::recurrence(n, 31),
+        _ => columns_high::column_31(n),
     }
 }
 
@@ -921,7 +921,7 @@ pub fn upper_31(n: u64) -> u64
         61 => 232714176627630544,
         62 => 465428353255261088,
         63 => 916312070471295267,
-        _ => pascal::recurrence(n, 31),
+        _ => columns_high::column_31(n),
     }
 }
 
@@ -931,7 +931,7 @@ pub fn lower_32(n: u64) -> u64
 {
     match n {
         31 => 0,
-        _ => pascal::recurrence(n, 32),
+        _ => columns_high::column_32(n),
     }
 }
 
@@ -972,6 +972,6 @@ pub fn upper_32(n: u64) -> u64
         61 => 218169540588403635,
         62 => 450883717216034179,
         63 => 916312070471295267,
-        _ => pascal::recurrence(n, 32),
+        _ => columns_high::column_32(n),
     }
 }

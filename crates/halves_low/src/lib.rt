@@ -42,7 +42,7 @@ pub fn lower_2(n: u64) -> u64
         29 => 406,
         30 => 435,
         31 => 465,
-        _ => pascal::recurrence(n, 2),
+        _ => columns_low::column_2(n),
     }
 }
 
@@ -83,7 +83,7 @@ pub fn upper_2(n: u64) -> u64
         61 => 1830,
         62 => 1891,
         63 => 1953,
-        _ => pascal::recurrence(n, 2),
+        _ => columns_low::column_2(n),
     }
 }
 
@@ -124,7 +124,7 @@ pub fn lower_3(n: u64) -> u64
         29 => 3654,
         30 => 4060,
         31 => 4495,
-        _ => pascal::recurrence(n, 3),
+        _ => columns_low::column_3(n),
     }
 }
 
@@ -165,7 +165,7 @@ pub fn upper_3(n: u64) -> u64
         61 => 35990,
         62 => 37820,
         63 => 39711,
-        _ => pascal::recurrence(n, 3),
+        _ => columns_low::column_3(n),
     }
 }
 
@@ -206,7 +206,7 @@ pub fn lower_4(n: u64) -> u64
         29 => 23751,
         30 => 27405,
         31 => 31465,
-        _ => pascal::recurrence(n, 4),
+        _ => columns_low::column_4(n),
     }
 }
 
@@ -247,7 +247,7 @@ pub fn upper_4(n: u64) -> u64
         61 => 521855,
         62 => 557845,
         63 => 595665,
-        _ => pascal::recurrence(n, 4),
+        _ => columns_low::column_4(n),
     }
 }
 
@@ -288,7 +288,7 @@ pub fn lower_5(n: u64) -> u64
         29 => 118755,
         30 => 142506,
         31 => 169911,
-        _ => pascal::recurrence(n, 5),
+        _ => columns_low::column_5(n),
     }
 }
 
@@ -329,7 +329,7 @@ pub fn upper_5(n: u64) -> u64
         61 => 5949147,
         62 => 6471002,
         63 => 7028847,
-        _ => pascal::recurrence(n, 5),
+        _ => columns_low::column_5(n),
     }
 }
 
@@ -370,7 +370,7 @@ pub fn lower_6(n: u64) -> u64
         29 => 475020,
         30 => 593775,
         31 => 736281,
-        _ => pascal::recurrence(n, 6),
+        _ => columns_low::column_6(n),
     }
 }
 
@@ -411,7 +411,7 @@ pub fn upper_6(n: u64) -> u64
         61 => 55525372,
         62 => 61474519,
         63 => 67945521,
-        _ => pascal::recurrence(n, 6),
+        _ => columns_low::column_6(n),
     }
 }
 
@@ -452,7 +452,7 @@ pub fn lower_7(n: u64) -> u64
         29 => 1560780,
         30 => 2035800,
         31 => 2629575,
-        _ => pascal::recurrence(n, 7),
+        _ => columns_low::column_7(n),
     }
 }
 
@@ -493,7 +493,7 @@ pub fn upper_7(n: u64) -> u64
         61 => 436270780,
         62 => 491796152,
         63 => 553270671,
-        _ => pascal::recurrence(n, 7),
+        _ => columns_low::column_7(n),
     }
 }
 
@@ -534,7 +534,7 @@ pub fn lower_8(n: u64) -> u64
         29 => 4292145,
         30 => 5852925,
         31 => 7888725,
-        _ => pascal::recurrence(n, 8),
+        _ => columns_low::column_8(n),
     }
 }
 
@@ -575,7 +575,7 @@ pub fn upper_8(n: u64) -> u64
         61 => 2944827765,
         62 => 3381098545,
         63 => 3872894697,
-        _ => pascal::recurrence(n, 8),
+        _ => columns_low::column_8(n),
     }
 }
 
@@ -616,7 +616,7 @@ pub fn lower_9(n: u64) -> u64
         29 => 10015005,
         30 => 14307150,
         31 => 20160075,
-        _ => pascal::recurrence(n, 9),
+        _ => columns_low::column_9(n),
     }
 }
 
@@ -657,7 +657,7 @@ pub fn upper_9(n: u64) -> u64
         61 => 17341763505,
         62 => 20286591270,
         63 => 23667689815,
-        _ => pascal::recurrence(n, 9),
+        _ => columns_low::column_9(n),
     }
 }
 
@@ -698,7 +698,7 @@ pub fn lower_10(n: u64) -> u64
         29 => 20030010,
         30 => 30045015,
         31 => 44352165,
-        _ => pascal::recurrence(n, 10),
+        _ => columns_low::column_10(n),
     }
 }
 
@@ -739,7 +739,7 @@ pub fn upper_10(n: u64) -> u64
         61 => 90177170226,
         62 => 107518933731,
         63 => 127805525001,
-        _ => pascal::recurrence(n, 10),
+        _ => columns_low::column_10(n),
     }
 }
 
@@ -780,7 +780,7 @@ pub fn lower_11(n: u64) -> u64
         29 => 34597290,
         30 => 54627300,
         31 => 84672315,
-        _ => pascal::recurrence(n, 11),
+        _ => columns_low::column_11(n),
     }
 }
 
@@ -821,7 +821,7 @@ pub fn upper_11(n: u64) -> u64
         61 => 418094152866,
         62 => 508271323092,
         63 => 615790256823,
-        _ => pascal::recurrence(n, 11),
+        _ => columns_low::column_11(n),
     }
 }
 
@@ -862,7 +862,7 @@ pub fn lower_12(n: u64) -> u64
         29 => 51895935,
         30 => 86493225,
         31 => 141120525,
-        _ => pascal::recurrence(n, 12),
+        _ => columns_low::column_12(n),
     }
 }
 
@@ -903,7 +903,7 @@ pub fn upper_12(n: u64) -> u64
         61 => 1742058970275,
         62 => 2160153123141,
         63 => 2668424446233,
-        _ => pascal::recurrence(n, 12),
+        _ => columns_low::column_12(n),
     }
 }
 
@@ -944,7 +944,7 @@ pub fn lower_13(n: u64) -> u64
         29 => 67863915,
         30 => 119759850,
         31 => 206253075,
-        _ => pascal::recurrence(n, 13),
+        _ => columns_low::column_13(n),
     }
 }
 
@@ -985,7 +985,7 @@ pub fn upper_13(n: u64) -> u64
         61 => 6566222272575,
         62 => 8308281242850,
         63 => 10468434365991,
-        _ => pascal::recurrence(n, 13),
+        _ => columns_low::column_13(n),
     }
 }
 
@@ -1026,7 +1026,7 @@ pub fn lower_14(n: u64) -> u64
         29 => 77558760,
         30 => 145422675,
         31 => 265182525,
-        _ => pascal::recurrence(n, 14),
+        _ => columns_low::column_14(n),
     }
 }
 
@@ -1067,7 +1067,7 @@ pub fn upper_14(n: u64) -> u64
         61 => 22512762077400,
         62 => 29078984349975,
         63 => 37387265592825,
-        _ => pascal::recurrence(n, 14),
+        _ => columns_low::column_14(n),
     }
 }
 
@@ -1108,7 +1108,7 @@ pub fn lower_15(n: u64) -> u64
         29 => 77558760,
         30 => 155117520,
         31 => 300540195,
-        _ => pascal::recurrence(n, 15),
+        _ => columns_low::column_15(n),
     }
 }
 
@@ -1149,7 +1149,7 @@ pub fn upper_15(n: u64) -> u64
         61 => 70539987842520,
         62 => 93052749919920,
         63 => 122131734269895,
-        _ => pascal::recurrence(n, 15),
+        _ => columns_low::column_15(n),
     }
 }
 
@@ -1190,7 +1190,7 @@ pub fn lower_16(n: u64) -> u64
         29 => 67863915,
         30 => 145422675,
         31 => 300540195,
-        _ => pascal::recurrence(n, 16),
+        _ => columns_low::column_16(n),
     }
 }
 
@@ -1231,6 +1231,6 @@ pub fn upper_16(n: u64) -> u64
         61 => 202802465047245,
         62 => 273342452889765,
         63 => 366395202809685,
-        _ => pascal::recurrence(n, 16),
+        _ => columns_low::column_16(n),
     }
 }

@@ -5,26 +5,10 @@ ghost use Prim.Native.Nat.{_+_, _*_, _<_, _≤_};
 ghost use Rattle.pascal.specs.Row.{entry};
 ghost use Rattle.halving.specs.Search.{value, Sought, Among, Taken};
 
-// The window of the first n rows, where the numbers sought are below s, and s is at most n.
-pub fn narrow(n: u64, k: u64, s: u64, r: u64, a: u64) -> u64
-    requires { ⌜ Sought 64 k s r a × (s ≤ n) × (n ≤ 32) × (0 < k) ⌝ }
-    ensures { λ j. ⌜ Among 0 k r j n ⌝ }
-{
-    0
-}
-
-// The window of the n rows from b up to 31; row b holds z, and row 32 holds c.
-pub fn below(b: u64, n: u64, k: u64, z: u64, c: u64, r: u64) -> u64
-    requires { ⌜ (z ≡ entry b k) × (c ≡ entry 32 k) × (b + n ≡ 32) × (z ≤ r) × (r < c) ⌝ }
+// The window of the n rows from b up, where the numbers sought are below b + n; row b holds c.
+pub fn rows(b: u64, n: u64, c: u64, k: u64, s: u64, r: u64, a: u64) -> u64
+    requires { ⌜ Sought 64 k s r a × (c ≡ entry b k) × (b + n ≡ s) × (c ≤ r) ⌝ }
     ensures { λ j. ⌜ Among b k r j n ⌝ }
-{
-    0
-}
-
-// The window of the rows from 32 to 63; row 32 holds c.
-pub fn above(k: u64, c: u64, s: u64, r: u64, a: u64) -> u64
-    requires { ⌜ Sought 64 k s r a × (c ≡ entry 32 k) × (c ≤ r) ⌝ }
-    ensures { λ j. ⌜ Among 32 k r j 32 ⌝ }
 {
     0
 }
@@ -48,9 +32,17 @@ pub fn half(b: u64, n: u64, j: u64, t: u64, c: u64, k: u64, r: u64) -> u64
 // The row is found, t, and holds c: its number joins those of a.
 pub fn with(b: u64, j: u64, t: u64, c: u64, k: u64, s: u64, r: u64, a: u64) -> u64
     requires { ⌜ Sought 64 k s r a × Among b k r j 1 × (t ≡ b + j) × (c ≡ entry t k) × (0 < k) ⌝ }
-    ensures { λ x. ⌜ Taken 64 k r a t c x ⌝ }
+    ensures { λ x. ⌜ Taken 64 k s r a c x ⌝ }
 {
-    a | (1u64 << t)
+    a + (1u64 << t)
+}
+
+// The numbers sought are below h too, since row h holds c, and that is more than r.
+pub fn below(h: u64, c: u64, k: u64, s: u64, r: u64, a: u64) -> u64
+    requires { ⌜ Sought 64 k s r a × (c ≡ entry h k) × (h ≤ s) × (r < c) ⌝ }
+    ensures { λ x. ⌜ Sought 64 k h r x × (x ≡ a) ⌝ }
+{
+    a
 }
 
 // The one number of rank r is r.
@@ -58,15 +50,15 @@ pub fn last(s: u64, r: u64, a: u64) -> u64
     requires { ⌜ Sought 64 1 s r a ⌝ }
     ensures { λ x. ⌜ x ≡ a + value 1 r ⌝ }
 {
-    a | (1u64 << r)
+    a + (1u64 << r)
 }
 
-// The search for a set of k numbers begins; k is j.
-pub fn begun(j: u64, k: u64, s: u64, r: u64) -> u64
-    requires { ⌜ (k ≡ j) × (s ≤ 64) × (r < entry s k) ⌝ }
-    ensures { λ x. ⌜ Sought 64 j x r 0 ⌝ }
+// The search for a set of k numbers begins, with no number found; k is j, and h is not below s.
+pub fn begun(h: u64, j: u64, k: u64, s: u64, r: u64) -> u64
+    requires { ⌜ (k ≡ j) × (s ≤ h) × (h ≤ 64) × (r < entry s k) ⌝ }
+    ensures { λ x. ⌜ Sought 64 j h r x × (x ≡ 0) ⌝ }
 {
-    s
+    0
 }
 
 // The set x of j numbers is that of k numbers, since k is j.

@@ -17,9 +17,10 @@ use Rattle.words.specs.Bits.{setBits, bitsOf}
 use Rattle.pascal.proofs.Choose.{choose-enough}
 use Rattle.pascal.proofs.Row.{entry-is-choose, entry-mirror}
 use Rattle.words.proofs.Unrank.{unrank-is-a-word, rank-of-unrank, unrank-of-rank}
-use Rattle.words.proofs.Bits.{bits-fit, bits-of-set, set-of-bits, set-bits-monotone, set-bits-long}
+use Rattle.words.proofs.Bits.{bits-of-set, set-of-bits, set-bits-monotone, set-bits-long}
 use Rattle.words.proofs.Complement.{ones-of-complement, complement-reverses-rank}
 use Rattle.halving.specs.Search.{value}
+use Rattle.halving.proofs.Search.{value-fits}
 
 pub enough : (n k r : ℕ) → r < entry n k → k ≤ n
 enough n k r h = choose-enough n k (omega (arith, entry-is-choose n k))
@@ -38,7 +39,7 @@ ranked n k r h =
     let w : Word Forbidden n k (unrankOf Forbidden k r) = unrank-is-a-word Forbidden n k r h in
     let s : setBits (value k r) ≡ unrankOf Forbidden k r = set-of-bits (unrankOf Forbidden k r) (w .monotone) in
     record {
-      small = bits-fit n (unrankOf Forbidden k r) (w .monotone) (w .below);
+      small = value-fits n k r h;
       many = sym (set-bits-long (value k r)) ∙ ap length s ∙ w .long;
       rank = ap (rankOf Forbidden) s ∙ rank-of-unrank Forbidden n k r h;
     }
