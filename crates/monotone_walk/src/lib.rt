@@ -59,7 +59,7 @@ pub fn successor(x: Index) -> Indexed
     if 64 < top {
         return judged_next(x);
     }
-    if bits::reaches(bits, top) {
+    if bits::shr_total(bits, top) != 0 {
         return judged_next(x);
     }
     Indexed::At(Index {

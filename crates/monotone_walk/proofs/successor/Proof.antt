@@ -1,5 +1,9 @@
 -- `monotone_walk::successor` meets its contract: where the next set stays below the shifted alphabet, that one test serves for both. Assumes nothing.
-use mathlib.Core.Path.{sym, _∙_}
+use mathlib.Core.Path.{sym, ap, _∙_}
+use mathlib.Core.Bool.{not}
+use Prim.Native.Nat.{ℕ}
+use lib.Dec.{eqb}
+use Rattle.bits.proofs.Member.{reaches-is-quotient}
 use Rattle.monotone_walk.proofs.Passing.{next-at-once}
 use borrow.Author.Needs.{needs}
 use Rattle.monotone_walk.proofs.successor.Statement.{statement}
@@ -29,8 +33,8 @@ judged-next-requires-3 c κs = search needs
 returns-3 : tie.Need-returns-3
 returns-3 c = search needs
 
-reaches-requires : tie.Need-reaches-requires
-reaches-requires c κs = search needs
+shr-total-requires : tie.Need-shr-total-requires
+shr-total-requires c κs = search needs
 
 judged-next-requires-4 : tie.Need-judged-next-requires-4
 judged-next-requires-4 c κs = search needs
@@ -40,9 +44,9 @@ returns-4 c = search needs
 
 returns-5 : tie.Need-returns-5
 returns-5 c =
-    next-at-once (c .before .before .before .before .before .before .before .args .x) (c .before .before .before .before .before .successor .result) (c .before .before .before .top .result) (c .before .before .before .before .before .successor .ensures) (c .before .before .before .before .if2 .left) (c .before .before .before .top .ensures) (c .before .before .if3 .left) (sym (c .before .reaches .ensures) ∙ c .if4 .left)
+    next-at-once (c .before .before .before .before .before .before .before .args .x) (c .before .before .before .before .before .successor .result) (c .before .before .before .top .result) (c .before .before .before .before .before .successor .ensures) (c .before .before .before .before .if2 .left) (c .before .before .before .top .ensures) (c .before .before .if3 .left) (reaches-is-quotient _ _ ∙ ap (λ (q : ℕ). not (eqb q 0)) (sym (c .before .shr-total .ensures) ∙ c .if4 .left))
 
 pub successor-spec : {M : Type 1} → statement M
 successor-spec =
     tie.close
-    (tie.spec judged-next-requires returns successor-requires judged-next-requires-2 returns-2 top-requires judged-next-requires-3 returns-3 reaches-requires judged-next-requires-4 returns-4 returns-5)
+    (tie.spec judged-next-requires returns successor-requires judged-next-requires-2 returns-2 top-requires judged-next-requires-3 returns-3 shr-total-requires judged-next-requires-4 returns-4 returns-5)
