@@ -1,0 +1,4 @@
+pub mod Digits
+pub mod Pairs
+pub mod Writing
+pub mod Minus
