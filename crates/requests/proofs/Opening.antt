@@ -63,7 +63,7 @@ no-number-past line from h numeral verb rest n q w g d = none-first numeral (ver
 
 -- ---- the first text of a line
 
-module _ (line : List ℕ) (end : ℕ) (short : length line ≤ 4096) (f : Found line 0 32 end) where
+module _ (line : List ℕ) (end : ℕ) (short : length line ≤ 262144) (f : Found line 0 32 end) where
   first-text : textsOf line ≡ take (end - 0) line ∷ textsFrom line (end + 1)
   unfolding textsFrom
   first-text = texts-at line 0 end (omega arith) f

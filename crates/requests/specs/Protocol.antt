@@ -7,7 +7,7 @@
 --   AllSpell texts xs    the texts say the words xs, one each
 --   Lent    what a request is lent: what suffices, or so many places
 --   roomName, Lends texts lent verb rest    the texts are the verb and the rest, after `room` and the number of places where it is lent so many
---   Opens line lent verb rest    the line, of 4,096 bytes at most, begins so, and the verb is not `room` again
+--   Opens line lent verb rest    the line, of 262,144 bytes at most, begins so, and the verb is not `room` again
 --   Asks line lent verb xs    the line asks for the verb with the words xs; a line that asks for nothing is bad
 use mathlib.Core.List.{List, [], _∷_}
 use mathlib.Core.Path.{_≡_}
@@ -82,7 +82,7 @@ Lends texts enough verb rest = texts ≡ verb ∷ rest
 Lends texts (places n) verb rest = LendsPlaces texts n verb rest
 
 pub record Opens (line : List ℕ) (lent : Lent) (verb : List ℕ) (rest : List (List ℕ)) : Type 0 where
-  pub short : length line ≤ 4096
+  pub short : length line ≤ 262144
   pub lends : Lends (textsOf line) lent verb rest
   pub once : verb ≡ roomName → ⊥
 

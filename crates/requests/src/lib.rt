@@ -58,7 +58,7 @@ fn after_room(line: &[u8], from: usize) -> Begun
 pub fn head(line: &[u8]) -> Begun
     ensures { λ r. ⌜ Begins (now (line .entry)) r ⌝ }
 {
-    if line.len() > 4096 {
+    if line.len() > 262144 {
         return Begun::Bad;
     }
     let end = text::find(line, 0, b' ');
