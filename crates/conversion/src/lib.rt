@@ -1,0 +1,93 @@
+// The converter between tables in lexicographic order, the old one, and in colex order, the new one (document 02, section 11). An entry is eight bytes, whatever
+// they hold. Widening the alphabet renumbers terms in the old order.
+ghost use mathlib.Core.Path.{_≡_};
+ghost use mathlib.Core.Bool.{not};
+ghost use mathlib.Core.List.{_++_};
+ghost use Prim.Native.Nat.{_+_, _*_, _≤_, _<_};
+ghost use lib.Dec.{eqb};
+ghost use lib.ListN.{length, take, drop};
+ghost use Rattle.answers.specs.Says.{answerSays, placesOf, after};
+ghost use Rattle.lexicographic.specs.Entries.{entryAt};
+ghost use Rattle.conversion.specs.Rules.{turned as turnedOf, converted, convertSays, Exact};
+use answers::Answer;
+use answers::Refusal;
+use words::Family;
+
+// Whether a buffer of so many bytes has exactly c entries. The product is not formed.
+fn has_entries(bytes: usize, c: u64) -> bool
+    ensures { λ r. ⌜ r ≡ eqb bytes (8 * c) ⌝ }
+{
+    let whole = bytes as u64;
+    if whole % 8 != 0 {
+        return false;
+    }
+    whole / 8 == c
+}
+
+// The place q of c, counted from the other end if so asked.
+fn turned(round: bool, c: u64, q: u64) -> u64
+    requires { ⌜ q < c ⌝ }
+    ensures { λ r. ⌜ r ≡ turnedOf round c q ⌝ }
+{
+    if round {
+        return c - 1 - q;
+    }
+    q
+}
+
+// Copies entry i of one buffer to entry j of the other.
+fn copy_entry(from: &[u8], i: u64, out: &mut [u8], j: u64)
+    requires { ⌜ (8 * i + 8 ≤ length (now from)) × (8 * j + 8 ≤ length (now out)) ⌝ }
+    ensures { λ r. ⌜ now (out .exit) ≡ take (8 * j) (now (out .entry)) ++ entryAt (now (from .entry)) i ++ drop (8 * j + 8) (now (out .entry)) ⌝ }
+{
+    let s = (8 * i) as usize;
+    let t = (8 * j) as usize;
+    let mut b = 0;
+    while b < 8 {
+        out[t + b] = from[s + b];
+        b += 1;
+    }
+}
+
+// Writes the entries in the other order. The sets are walked in colex order, with how many stand later in lexicographic order: counted from the other end that is
+// the lexicographic place of the set, and as it is the colex place of the mirrored one.
+fn write(back: bool, family: Family, n: u64, k: u64, c: u64, from: &[u8], out: &mut [u8])
+    requires { ⌜ Exact family n k c (now from) (now out) ⌝ }
+    ensures { λ r. ⌜ now (out .exit) ≡ converted back family n k (now (from .entry)) ⌝ }
+{
+    let a = taking::shifted_alphabet(family, n, k);
+    let mut bits = bits::low_mask(k);
+    let mut later = if 0 < c { c - 1 } else { 0 };
+    let mut q: u64 = 0;
+    while q < c {
+        copy_entry(from, turned(!back, c, later), out, turned(back, c, q));
+        q += 1;
+        if q < c {
+            later = following::next_later(a, k, bits, later);
+            bits = successor::successor(bits);
+        }
+    }
+}
+
+// A body in the other order, written into a lent output: from the old order to the new one, or back. 1 as the count; 8 unless both buffers have exactly the count
+// of entries. The answer is how many bytes are written.
+pub fn convert(back: bool, family: Family, n: u64, k: u64, from: &[u8], out: &mut [u8]) -> Answer
+    ensures says { λ a. ⌜ answerSays a ≡ placesOf (convertSays back family n k (now (from .entry)) (length (now (out .entry)))) ⌝ }
+    ensures holds { λ a. ⌜ now (out .exit) ≡ after (convertSays back family n k (now (from .entry)) (length (now (out .entry)))) (now (out .entry)) ⌝ }
+{
+    let a = monotone::count(family, n, k);
+    let Answer::Is(c) = a else {
+        let Answer::Refused(e) = a else {
+            return Answer::Refused(Refusal::TooWide);
+        };
+        return Answer::Refused(e);
+    };
+    if !has_entries(from.len(), c) {
+        return Answer::Refused(Refusal::Shape);
+    }
+    if !has_entries(out.len(), c) {
+        return Answer::Refused(Refusal::Shape);
+    }
+    write(back, family, n, k, c, from, out);
+    Answer::Is(out.len() as u64)
+}

@@ -1,0 +1,4 @@
+pub mod Order
+pub mod Later
+pub mod Entries
+pub mod Bodies
