@@ -6,13 +6,14 @@
 --   following F n w room    what follows the checks: 4; 8; the next word
 --   last-says, short-says, next-says    no symbol to raise, no room, the next word
 --   can-write    what the writing of it needs
+--   unrank-refused, unrank-none, unrank-short, unrank-gives    unranking, check by check
 use mathlib.Core.Path.{_≡_, refl, sym, ap, _∙_}
 use mathlib.Core.Bool.{Bool, true, false, not}
 use mathlib.Core.List.{List, [], _∷_}
 use Prim.Native.Nat.{ℕ, _≤_, _<_}
 use native.Mathlib.Omega.{arith}
-use borrow.Author.Tests.{ltb-false, lt-ltb, le-ltb}
-use lib.Dec.{ltb}
+use borrow.Author.Tests.{ltb-false, lt-ltb, le-ltb, lt-leb, le-leb}
+use lib.Dec.{leb, ltb}
 use lib.ListN.{length}
 use Rattle.words.specs.declared.Family.{Family}
 use Rattle.words.specs.Word.{Word, unshifted, shiftedAlphabet}
@@ -27,10 +28,10 @@ use Rattle.bits.specs.Member.{reaches}
 use Rattle.bits.proofs.Member.{reaches-not}
 use Rattle.packing.specs.Checks.{rises, breakAt, lastShifted}
 use Rattle.packing.proofs.Checks.{rises-is-monotone}
-use Rattle.monotone.specs.Rules.{checkedOver, packSays}
-use Rattle.lexicographic.specs.Order.{lexRank, hasLater, lexNext}
+use Rattle.monotone.specs.Rules.{countSays, checkedOver, packSays}
+use Rattle.lexicographic.specs.Order.{lexRank, lexUnrank, hasLater, lexNext}
 use Rattle.raising.specs.Raised.{Raise, CanWrite, raisedAt}
-use Rattle.lexical.specs.Rules.{lexRankSays, lexSuccessorSays}
+use Rattle.lexical.specs.Rules.{lexRankSays, lexUnrankSays, lexSuccessorSays}
 
 over-then : {A B C : Type 0} (F : Family) (n : ℕ) (w : List ℕ) (a : A) (f : A → Says C) (b : B) (g : B → Says C) → f a ≡ g b
     → andThen (checkedOver F n w a) f ≡ andThen (checkedOver F n w b) g
@@ -109,3 +110,17 @@ can-write F n w r g p h =
       short = g .short;
       low = below-more n 64 w (omega (arith, alphabet-least F n (length w), g .narrow)) (g .word .below);
     }
+
+-- ---- unranking, check by check
+
+pub unrank-refused : (F : Family) (n k r room e : ℕ) (p : List ℕ) → countSays F n k ≡ refusesWith e p → lexUnrankSays F n k r room ≡ refusesWith e p
+unrank-refused F n k r room e p q = ap (λ s. andThen s (λ c. refusedIf (leb c r) 3 (refusedIf (ltb room k) 8 (gives (lexUnrank F n k r))))) q
+
+pub unrank-none : (F : Family) (n k r room c : ℕ) → countSays F n k ≡ gives c → c ≤ r → lexUnrankSays F n k r room ≡ refuses 3
+unrank-none F n k r room c e h = simp (e, le-leb c r h)
+
+pub unrank-short : (F : Family) (n k r room c : ℕ) → countSays F n k ≡ gives c → r < c → room < k → lexUnrankSays F n k r room ≡ refuses 8
+unrank-short F n k r room c e h l = simp (e, lt-leb c r h, lt-ltb room k l)
+
+pub unrank-gives : (F : Family) (n k r room c : ℕ) → countSays F n k ≡ gives c → r < c → k ≤ room → lexUnrankSays F n k r room ≡ gives (lexUnrank F n k r)
+unrank-gives F n k r room c e h l = simp (e, lt-leb c r h, le-ltb room k l)

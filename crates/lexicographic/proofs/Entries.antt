@@ -1,8 +1,9 @@
 -- Entries of eight bytes in another order. Assumes nothing.
+--   entry-long    an entry is eight bytes
 --   rearranged-long    c entries are 8 * c bytes
 --   entry-of-rearranged    the entry at place r is entry f r of what was given
 --   rearranged-back    where g undoes f below c, rearranging by f and then by g gives the same bytes
---   rearranged-more    one entry more
+--   rearranged-same    entries that stand where f says, put in order
 use mathlib.Core.Path.{_≡_, refl, sym, ap, ap₂, subst, _∙_}
 use mathlib.Core.Logic.{_⊎_, inl, inr}
 use mathlib.Core.List.{List, [], _++_}
@@ -13,7 +14,7 @@ use lib.ListN.{length, take, drop, length-append, length-drop}
 use lib.Seq.{length-take-le, take-all, take-append-le, drop-append-le, drop-at, take-add}
 use Rattle.lexicographic.specs.Entries.{entryAt, rearranged}
 
-entry-long : (l : List ℕ) (r : ℕ) → 8 * suc r ≤ length l → length (entryAt l r) ≡ 8
+pub entry-long : (l : List ℕ) (r : ℕ) → 8 * suc r ≤ length l → length (entryAt l r) ≡ 8
 entry-long l r h = length-take-le 8 (drop (8 * r) l) (omega (arith, length-drop (8 * r) l))
 
 -- each of the first d places is given an entry that l has
@@ -56,7 +57,7 @@ entry-of-rearranged f (suc d) l h r b = go (eq-or-lt-of-le b) (entry-of-rearrang
 eight : (d : ℕ) → 8 * suc d ≡ 8 * d + 8
 eight d = omega arith
 
-rearranged-same : (f : ℕ → ℕ) (d : ℕ) (l m : List ℕ) → ((r : ℕ) → r < d → entryAt m (f r) ≡ entryAt l r) → rearranged f d m ≡ take (8 * d) l
+pub rearranged-same : (f : ℕ → ℕ) (d : ℕ) (l m : List ℕ) → ((r : ℕ) → r < d → entryAt m (f r) ≡ entryAt l r) → rearranged f d m ≡ take (8 * d) l
 unfolding rearranged
 rearranged-same f zero l m h = refl
 rearranged-same f (suc d) l m h =
