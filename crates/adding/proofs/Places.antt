@@ -30,7 +30,7 @@ use Rattle.words.proofs.Rank.{rank-below-count}
 use Rattle.words.proofs.Bits.{bits-fit, reset-bits, tail, bits-of-set, set-of-bits}
 use Rattle.words.proofs.Shifted.{shifted-monotone, unshifted-shifted, word-shifted, shifted-first, shifted-next}
 use Rattle.words.proofs.Next.{reset-long, next-long, next-is-a-word}
-use Rattle.bits.specs.Mask.{capped, LowMask}
+use Rattle.bits.specs.Mask.{clamped, LowMask}
 use Rattle.successor.specs.Later.{following, later}
 use Rattle.merging.specs.Sorting.{insert}
 use Rattle.derivatives.proofs.Inserted.{insert-word, insert-many, occurs-at-most}
@@ -41,7 +41,7 @@ use Rattle.adding.specs.Places.{spelled, Placed, Movable}
 
 pub begun : (s k b r m : ℕ) → s + k < 64 → LowMask k b → r ≡ entry (s + k) (k + 1) → m ≡ 1 + pick (eqb s 0) k 0 → Placed s (first Allowed k) b r m
 begun s k b r m h l e f =
-    let c : capped k ≡ k = rw (lt-ltb k 64 (omega arith)) in
+    let c : clamped k ≡ k = rw (lt-ltb k 64 (omega arith)) in
     record {
       bits = sym (bits-of-set b) ∙ ap bitsOf (l .symbols ∙ ap (first Forbidden) c ∙ sym (shifted-first Allowed k));
       rank = e ∙ entry-is-choose (s + k) (k + 1) ∙ ap (choose (s + k)) (add-one k) ∙ sym (first-inserted s k);

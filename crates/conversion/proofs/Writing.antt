@@ -30,8 +30,8 @@ use Rattle.words.proofs.Unrank.{unrank-is-a-word, unrank-monotone, unrank-long,
 use Rattle.words.proofs.Next.{next-long, next-monotone, next-rank, next-is-a-word}
 use Rattle.words.proofs.Ends.{first-bits, first-is-unrank-zero, first-monotone}
 use Rattle.words.proofs.Bits.{bits-fit, set-of-bits}
-use Rattle.bits.specs.Mask.{capped}
-use Rattle.bits.proofs.Mask.{capped-within}
+use Rattle.bits.specs.Mask.{clamped}
+use Rattle.bits.proofs.Mask.{clamped-within}
 use Rattle.successor.specs.Later.{following, later}
 use Rattle.lexicographic.specs.Order.{mirror}
 use Rattle.lexicographic.specs.Later.{laterWords, laterSets}
@@ -112,10 +112,10 @@ pub record Walks (a k c q bits later : ℕ) : Type 0 where
   pub set : q < c → setBits bits ≡ unrankOf Forbidden k q
   pub later : q < c → later ≡ laterSets a k q
 
-pub walks-first : (a k c b : ℕ) → c ≡ choose a k → k ≤ 64 → suc b ≡ 2 ^ capped k → Walks a k c 0 b (c - 1)
+pub walks-first : (a k c b : ℕ) → c ≡ choose a k → k ≤ 64 → suc b ≡ 2 ^ clamped k → Walks a k c 0 b (c - 1)
 walks-first a k c b e h m =
     record {
-      set = λ p. ap setBits (omega (arith, m ∙ ap (λ (j : ℕ). 2 ^ j) (capped-within k h), first-bits k)) ∙ set-of-bits (first Forbidden k) (first-monotone Forbidden k) ∙ sym (first-is-unrank-zero Forbidden k);
+      set = λ p. ap setBits (omega (arith, m ∙ ap (λ (j : ℕ). 2 ^ j) (clamped-within k h), first-bits k)) ∙ set-of-bits (first Forbidden k) (first-monotone Forbidden k) ∙ sym (first-is-unrank-zero Forbidden k);
       later = λ p. omega (arith, first-later a k (omega (arith, e)));
     }
 

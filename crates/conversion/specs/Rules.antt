@@ -14,7 +14,7 @@ use Rattle.words.specs.declared.Family.{Family}
 use Rattle.words.specs.Pick.{pick}
 use Rattle.words.specs.Word.{shiftedAlphabet, count}
 use Rattle.answers.specs.Says.{Says, gives, refusedIf, andThen}
-use Rattle.monotone.specs.Rules.{countSays}
+use Rattle.monotone_count.specs.Rules.{countSays}
 use Rattle.lexicographic.specs.Entries.{rearranged}
 use Rattle.lexicographic.specs.Bodies.{lexOf, colexOf}
 

@@ -75,7 +75,7 @@ pub fn convert(back: bool, family: Family, n: u64, k: u64, from: &[u8], out: &mu
     ensures says { λ a. ⌜ answerSays a ≡ placesOf (convertSays back family n k (now (from .entry)) (length (now (out .entry)))) ⌝ }
     ensures holds { λ a. ⌜ now (out .exit) ≡ after (convertSays back family n k (now (from .entry)) (length (now (out .entry)))) (now (out .entry)) ⌝ }
 {
-    let a = monotone::count(family, n, k);
+    let a = monotone_count::count(family, n, k);
     let Answer::Is(c) = a else {
         let Answer::Refused(e) = a else {
             return Answer::Refused(Refusal::TooWide);

@@ -28,7 +28,8 @@ use Rattle.bits.specs.Member.{reaches}
 use Rattle.bits.proofs.Member.{reaches-not}
 use Rattle.packing.specs.Checks.{rises, breakAt, lastShifted}
 use Rattle.packing.proofs.Checks.{rises-is-monotone}
-use Rattle.monotone.specs.Rules.{countSays, checkedOver, packSays}
+use Rattle.monotone_count.specs.Rules.{countSays}
+use Rattle.monotone.specs.Rules.{checkedOver, packSays}
 use Rattle.lexicographic.specs.Order.{lexRank, lexUnrank, hasLater, lexNext}
 use Rattle.raising.specs.Raised.{Raise, CanWrite, raisedAt}
 use Rattle.lexical.specs.Rules.{lexRankSays, lexUnrankSays, lexSuccessorSays}

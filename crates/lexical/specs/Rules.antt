@@ -9,7 +9,8 @@ use lib.Dec.{leb, ltb}
 use lib.ListN.{length}
 use Rattle.words.specs.declared.Family.{Family}
 use Rattle.answers.specs.Says.{Says, gives, refusedIf, andThen}
-use Rattle.monotone.specs.Rules.{countSays, checkedOver}
+use Rattle.monotone_count.specs.Rules.{countSays}
+use Rattle.monotone.specs.Rules.{checkedOver}
 use Rattle.lexicographic.specs.Order.{lexRank, lexUnrank, hasLater, lexNext}
 
 abbrev pub lexRankSays : Family → ℕ → List ℕ → Says ℕ

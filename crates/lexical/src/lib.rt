@@ -30,7 +30,7 @@ pub fn unrank(family: Family, n: u64, k: u64, r: u64, out: &mut [u64]) -> Answer
     ensures says { λ a. ⌜ answerSays a ≡ placesOf (lexUnrankSays family n k r (length (now (out .entry)))) ⌝ }
     ensures holds { λ a. ⌜ now (out .exit) ≡ after (lexUnrankSays family n k r (length (now (out .entry)))) (now (out .entry)) ⌝ }
 {
-    let a = monotone::count(family, n, k);
+    let a = monotone_count::count(family, n, k);
     let Answer::Is(c) = a else {
         let Answer::Refused(e) = a else {
             return Answer::Refused(Refusal::TooWide);

@@ -27,5 +27,5 @@ widening-renumbers same =
       widened-multiset .0,
       widened-multiset .1,
       same Allowed 2 3 2 (1 ∷ 1 ∷ []) (record { long = refl; monotone = (omega arith, tt); below = (omega arith, (omega arith, tt)) })
-      (record { long = refl; monotone = (omega arith, tt); below = (omega arith, (omega arith, tt)) }),
+          (record { long = refl; monotone = (omega arith, tt); below = (omega arith, (omega arith, tt)) }),
     )

@@ -82,14 +82,14 @@ mirroring-turn a bits left out s h l p n e = go (setBits left) refl
           low = k;
           adds = omega (arith, d);
           again = λ m f. record {
-              all = ap (λ (j : ℕ). mirror a (setBits m) ++ setBits (out + j)) d
-                  ∙ ap (λ (u : List ℕ). mirror a u ++ setBits (out + 2 ^ (a - 1 - s))) (f ∙ ap (drop 1) q)
-                  ∙ ap (λ (j : ℕ). mirror a xs ++ setBits j) (sym sum)
-                  ∙ ap (λ (u : List ℕ). mirror a xs ++ u) w
-                  ∙ v;
-              low = subst (Below a) (sym (f ∙ ap (drop 1) q)) (subst (Below a) q (p .low) .1);
-              fits = omega (arith, d);
-            };
+            all = ap (λ (j : ℕ). mirror a (setBits m) ++ setBits (out + j)) d
+                ∙ ap (λ (u : List ℕ). mirror a u ++ setBits (out + 2 ^ (a - 1 - s))) (f ∙ ap (drop 1) q)
+                ∙ ap (λ (j : ℕ). mirror a xs ++ setBits j) (sym sum)
+                ∙ ap (λ (u : List ℕ). mirror a xs ++ u) w
+                ∙ v;
+            low = subst (Below a) (sym (f ∙ ap (drop 1) q)) (subst (Below a) q (p .low) .1);
+            fits = omega (arith, d);
+          };
           less = λ m f. omega (arith, ap length q, ap length (f ∙ ap (drop 1) q));
         }
 

@@ -20,8 +20,8 @@ module _ (out₀ out bytes : List ℕ) (at i : ℕ) where
       let j = 2 * i in
       let s : suc (j + 1) ≡ 2 * (i + 1) = omega arith in
       let first : set out (at + j) x ≡ paste out₀ at (hexOf bytes) (j + 1) =
-            ap₂ (λ (u : List ℕ) (v : ℕ). set u (at + j) v) e (p ∙ sym (high-in bytes i j l refl))
-            ∙ paste-suc out₀ at (hexOf bytes) j 0 (omega arith) (omega (arith, hex-long bytes)) ∙ ap (paste out₀ at (hexOf bytes)) (sym (add-one j)) in
+      ap₂ (λ (u : List ℕ) (v : ℕ). set u (at + j) v) e (p ∙ sym (high-in bytes i j l refl))
+      ∙ paste-suc out₀ at (hexOf bytes) j 0 (omega arith) (omega (arith, hex-long bytes)) ∙ ap (paste out₀ at (hexOf bytes)) (sym (add-one j)) in
       ap₂ (λ (u : List ℕ) (v : ℕ). set u (at + (j + 1)) v) first (q ∙ sym (low-in bytes i (j + 1) l refl))
       ∙ paste-suc out₀ at (hexOf bytes) (j + 1) 0 (omega arith) (omega (arith, hex-long bytes)) ∙ ap (paste out₀ at (hexOf bytes)) s
 
@@ -54,8 +54,11 @@ module _ (out bytes : List ℕ) (at : ℕ) where
       go (b ∷ bs) d q h e =
           let n : 2 * i ≡ length (hexOf (b ∷ bs)) = omega (arith, hex-long (b ∷ bs)) in
           record {
-            fits = λ l. (e ∙ ap (paste out at (hexOf (b ∷ bs))) n
-                ∙ ap (λ (t : List ℕ). take at out ++ t ++ drop (at + length (hexOf (b ∷ bs))) out) (take-length (hexOf (b ∷ bs))), ap (λ (k : ℕ). at + k) n);
+            fits = λ l. (
+              e ∙ ap (paste out at (hexOf (b ∷ bs))) n
+                  ∙ ap (λ (t : List ℕ). take at out ++ t ++ drop (at + length (hexOf (b ∷ bs))) out) (take-length (hexOf (b ∷ bs))),
+              ap (λ (k : ℕ). at + k) n,
+            );
             full = λ l. absurd (omega (arith, hex-long (b ∷ bs)));
             within = omega arith;
           }

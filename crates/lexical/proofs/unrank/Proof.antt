@@ -7,7 +7,7 @@ use lib.ListN.{length, drop}
 use Rattle.words.specs.Bits.{setBits}
 use Rattle.words.proofs.Shifted.{unshifted-long}
 use Rattle.answers.specs.Says.{gives, answerSays, placesOf, after}
-use Rattle.monotone.proofs.Rules.{count-given}
+use Rattle.monotone_count.proofs.Rules.{count-given}
 use Rattle.lexicographic.proofs.Rank.{lex-unrank-is-a-word}
 use Rattle.lexical.proofs.Given.{unrank-refused, unrank-none, unrank-short, unrank-gives}
 use borrow.Author.Needs.{needs}
@@ -70,9 +70,10 @@ returns-5 : tie.Need-returns-5
 returns-5 c =
     let e = sym (c .before .before .before .before .before .before .before .before .before .before .count .ensures) ∙ ap answerSays (c .before .before .before .before .before .before .before .before .a .given .1) in
     let d = count-given (c .before .before .before .before .before .before .before .before .before .before .before .before .args .family) (c .before .before .before .before .before .before .before .before .before .before .before .before .args .n) (c .before .before .before .before .before .before .before .before .before .before .before .before .args .k) _ e in
-    let u = unrank-gives (c .before .before .before .before .before .before .before .before .before .before .before .before .args .family) (c .before .before .before .before .before .before .before .before .before .before .before .before .args .n) (c .before .before .before .before .before .before .before .before .before .before .before .before .args .k) (c .before .before .before .before .before .before .before .before .before .before .before .before .args .r) (length (c .before .before .before .before .before .before .before .before .before .before .before .before .args .out .now)) _ e (c .before .before .before .before .before .before .if1 .left) (c .before .before .before .before .before .if2 .left) in
-    (ap gives (sym (lex-unrank-is-a-word (c .before .before .before .before .before .before .before .before .before .before .before .before .args .family) (c .before .before .before .before .before .before .before .before .before .before .before .before .args .n) (c .before .before .before .before .before .before .before .before .before .before .before .before .args .k) (c .before .before .before .before .before .before .before .before .before .before .before .before .args .r) (omega (arith, d .is, c .before .before .before .before .before .before .if1 .left)) .long)) ∙ sym (ap placesOf u),
-    c .before .before .spell .ensures ∙ ap (λ (v : List ℕ). v ++ drop (length v) (c .before .before .before .before .before .before .before .before .before .before .before .before .args .out .now)) (c .before .before .before .before .at-place .ensures) ∙ sym (ap (λ s. after s (c .before .before .before .before .before .before .before .before .before .before .before .before .args .out .now)) u))
+    let u = unrank-gives (c .before .before .before .before .before .before .before .before .before .before .before .before .args .family) (c .before .before .before .before .before .before .before .before .before .before .before .before .args .n) (c .before .before .before .before .before .before .before .before .before .before .before .before .args .k) (c .before .before .before .before .before .before .before .before .before .before .before .before .args .r) (length (c .before .before .before .before .before .before .before .before .before .before .before .before .args .out .now)) _ e (c .before .before .before .before .before .before .if1 .left) (c .before .before .before .before .before .if2 .left) in (
+      ap gives (sym (lex-unrank-is-a-word (c .before .before .before .before .before .before .before .before .before .before .before .before .args .family) (c .before .before .before .before .before .before .before .before .before .before .before .before .args .n) (c .before .before .before .before .before .before .before .before .before .before .before .before .args .k) (c .before .before .before .before .before .before .before .before .before .before .before .before .args .r) (omega (arith, d .is, c .before .before .before .before .before .before .if1 .left)) .long)) ∙ sym (ap placesOf u),
+      c .before .before .spell .ensures ∙ ap (λ (v : List ℕ). v ++ drop (length v) (c .before .before .before .before .before .before .before .before .before .before .before .before .args .out .now)) (c .before .before .before .before .at-place .ensures) ∙ sym (ap (λ s. after s (c .before .before .before .before .before .before .before .before .before .before .before .before .args .out .now)) u),
+    )
 
 pub unrank-spec : {M : Type 1} → statement M
 unrank-spec =

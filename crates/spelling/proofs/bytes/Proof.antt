@@ -52,10 +52,11 @@ loop-less : tie.Need-loop-less Inv-loop μ-loop
 loop-less c = omega arith
 
 loop-again : tie.Need-loop-again Inv-loop μ-loop
-loop-again c =
-    (omega arith,
-     λ bs s h. byte-stored _ _ _ bs _ _ s h (omega (arith, c .before .before .before .before .before .lesser .ensures .0)) (c .before .before .before .before .loop .inv .1 bs s h) (c .byte .ensures),
-     simp length-set (c .before .before .before .before .loop .inv .2))
+loop-again c = (
+  omega arith,
+  λ bs s h. byte-stored _ _ _ bs _ _ s h (omega (arith, c .before .before .before .before .before .lesser .ensures .0)) (c .before .before .before .before .loop .inv .1 bs s h) (c .byte .ensures),
+  simp length-set (c .before .before .before .before .loop .inv .2),
+)
 
 same-length : tie.Need-same-length Inv-loop μ-loop
 same-length c = c .before .loop .inv .2

@@ -30,9 +30,10 @@ all-digits-requires : tie.Need-all-digits-requires
 all-digits-requires c κs = search needs
 
 returns-4 : tie.Need-returns-4
-returns-4 c =
-    (λ t. digits-are-bytes _ (λ e. omega arith) (omega arith) (c .all-digits .ensures .0 t),
-     λ o. c .all-digits .ensures .1 (bytes-are-digits _ (λ e. refused (c .before .before .before .before .same .ensures .1 e) (c .before .before .before .if1 .left)) o .1 .1))
+returns-4 c = (
+  λ t. digits-are-bytes _ (λ e. omega arith) (omega arith) (c .all-digits .ensures .0 t),
+  λ o. c .all-digits .ensures .1 (bytes-are-digits _ (λ e. refused (c .before .before .before .before .same .ensures .1 e) (c .before .before .before .if1 .left)) o .1 .1),
+)
 
 pub is-bytes-spec : {M : Type 1} → statement M
 is-bytes-spec =
