@@ -10,13 +10,14 @@ import re
 import sys
 from math import comb, factorial, prod
 
-MAX_LINE, MAX_LIST = 4096, 80
+MAX_LINE, MAX_LIST = 262144, 80
 TOO_WIDE, NOT_MONOTONE, NO_SUCH_RANK, LAST, REPEATED = 1, 2, 3, 4, 5
 FAMILY_DIFFERS, OUTSIDE, SHAPE, TOO_BIG, NOT_A_PERMUTATION = 6, 7, 8, 9, 10
+BAD_IMAGE, NO_SUCH_TABLE = 11, 12
 
 
 class Refused(Exception):
-    """A refusal by its number and, for 2, the position that it carries."""
+    """A refusal by its number and, for 2 and 11, the place that it carries."""
 
     def __str__(self):
         return " at ".join(map(str, self.args))
@@ -411,7 +412,98 @@ def exp_add(room, x, y):
     return lend(room, [a + b for a, b in zip(x, y)])
 
 
-# ---- the requests: a pattern of the words after the verb (F a family, n a number, * a list, P a permutation, / itself), and the answer
+# ---- the image of the coefficient tables
+
+# The fields of the contents list: the number of tables, then for each table a row of these, by name and bytes.
+
+MOST_BYTES, MOST_TABLES = 65536, 64
+NAMES = ("forbidden", "allowed")
+ROW = (("family", 1), ("degree", 1), ("alphabet", 1), ("zero", 1), ("offset", 4), ("entries", 4))
+
+
+def field(image, at, size):
+    """A field that is there; an image that ends before or inside it is refused at its length."""
+    refuse_if(at + size > len(image), BAD_IMAGE, len(image))
+    return int.from_bytes(image[at:at + size], "little")
+
+
+def entries_right(row, above):
+    """Whether a row's number of entries is the count, is not 0, and ends its body, which starts at `above`, in time."""
+    words = count(NAMES[row["family"]], row["alphabet"], row["degree"])
+    return row["entries"] == words != 0 and above + 8 * words <= MOST_BYTES
+
+
+def field_right(name, row, rows, above):
+    """Whether a field of a row is right, given the fields before it, the rows above and where the body has to start."""
+    value = row[name]
+    return {
+        "family": lambda: value < 2,
+        "degree": lambda: value <= 64 and (row["family"], value) not in [(r["family"], r["degree"]) for r in rows],
+        "alphabet": lambda: shifted_alphabet(NAMES[row["family"]], value, row["degree"]) <= 64,
+        "zero": lambda: value == 0,
+        "offset": lambda: value == above,
+        "entries": lambda: entries_right(row, above),
+    }[name]()
+
+
+def image_rows(image):
+    """The rows of a good image, from its first byte to its last."""
+    tables, rows, at = field(image, 0, 4), [], 4
+    refuse_if(not 1 <= tables <= MOST_TABLES, BAD_IMAGE, 0)
+    end = 4 + tables * sum(size for _, size in ROW)
+    for _ in range(tables):
+        row = {}
+        for name, size in ROW:
+            row[name] = field(image, at, size)
+            refuse_if(not field_right(name, row, rows, end), BAD_IMAGE, at)
+            at += size
+        rows.append(row)
+        end += 8 * row["entries"]
+    refuse_if(len(image) != end, BAD_IMAGE, min(len(image), end))
+    return rows
+
+
+def image_row(image, family, k):
+    found = [row for row in image_rows(image) if (NAMES[row["family"]], row["degree"]) == (family, k)]
+    refuse_if(not found, NO_SUCH_TABLE)
+    return [found[0][name] for name in ("alphabet", "offset", "entries")]
+
+
+def image_lookup(image, x):
+    k, r = degree(x), rank_of(x)
+    alphabet, offset, _ = image_row(image, x[0], k)
+    refuse_if(any(s >= alphabet for s in word_of(x[0], x[2])), NO_SUCH_RANK)
+    return int.from_bytes(image[offset + 8 * r:offset + 8 * r + 8], "little")
+
+
+def image_write(room, contents, bodies):
+    image_rows(contents + bodies)
+    return lend(room, contents + bodies)
+
+
+def by_record(place, call, *given):
+    """A call by a reader record: its place is that of the contents list, which is 0."""
+    refuse_if(place != 0, OUTSIDE)
+    return call(*given)
+
+
+def pieces(given):
+    """The verdict after the last piece. A refusal is told as soon as no further byte can change it."""
+    image = b""
+    for piece in given:
+        if piece == "end":
+            return len(image_rows(image))
+        image += piece
+        try:
+            image_rows(image)
+        except Refused as e:
+            if e.args[1] < len(image):
+                raise
+    return "open"
+
+
+# ---- the requests: a pattern of the words after the verb (F a family, n a number, * a list, P a permutation, B bytes,
+# X pieces, / itself), and the answer
 
 REQUESTS = {
     "count": ("F n n", lambda room, f, n, k: count(f, n, k)),
@@ -462,6 +554,14 @@ REQUESTS = {
     "expfrom": ("n / *", lambda room, n, w: exp_from(room, n, w)),
     "expunrank": ("n n n", lambda room, n, k, r: exp_unrank(room, n, k, r)),
     "expadd": ("* / *", lambda room, x, y: exp_add(room, x, y)),
+    "imagecheck": ("B", lambda room, b: len(image_rows(b))),
+    "imagerow": ("B F n", lambda room, b, f, k: image_row(b, f, k)),
+    "imagelookup": ("B F n n", lambda room, b, *x: image_lookup(b, x)),
+    "imagewrite": ("B B", lambda room, c, d: image_write(room, c, d)),
+    "recordcheck": ("n B", lambda room, p, b: len(by_record(p, image_rows, b))),
+    "recordrow": ("n B F n", lambda room, p, b, f, k: by_record(p, image_row, b, f, k)),
+    "recordlookup": ("n B F n n", lambda room, p, b, *x: by_record(p, image_lookup, b, x)),
+    "pieces": ("X", lambda room, given: pieces(given)),
 }
 
 
@@ -473,6 +573,12 @@ def number(word):
     if not re.fullmatch("0|[1-9][0-9]*", word) or int(word) >= 2**64:
         raise Bad
     return int(word)
+
+
+def bytes_of(word):
+    if word != "-" and not re.fullmatch("([0-9a-f]{2})+", word):
+        raise Bad
+    return b"" if word == "-" else bytes.fromhex(word)
 
 
 def arguments(pattern, words):
@@ -489,9 +595,11 @@ def arguments(pattern, words):
             continue
         if not words:
             raise Bad
+        if part == "X":
+            return taken + [[w if w == "end" else bytes_of(w) for w in words]]
         if part == "F" and words[0] not in ("forbidden", "allowed") or part == "/" and words[0] != "/":
             raise Bad
-        value = words[0] if part == "F" else number(words[0]) if part in "ns" else None
+        value = words[0] if part == "F" else number(words[0]) if part in "ns" else bytes_of(words[0]) if part == "B" else None
         if part == "s" and value == 0:
             raise Bad
         taken += [value] if part != "/" else []
@@ -502,14 +610,16 @@ def arguments(pattern, words):
 
 
 def asked(line):
-    words, room = line.split(" "), MAX_LIST
+    words, room = line.split(" "), MOST_BYTES
     if words[0] == "room" and len(words) > 1:
-        room, words = min(number(words[1]), MAX_LIST), words[2:]
+        room, words = min(number(words[1]), MOST_BYTES), words[2:]
     verb = 2 if words[:1] == ["step"] else 1
     if " ".join(words[:verb]) not in REQUESTS:
         raise Bad
     pattern, answer = REQUESTS[" ".join(words[:verb])]
     value = answer(room, *arguments(pattern, words[verb:]))
+    if isinstance(value, bytes):
+        return value.hex() or "-"
     return " ".join(map(str, value)) if isinstance(value, list) else str(value)
 
 
@@ -576,6 +686,40 @@ def test():
             assert linearize(radices, digits[::-1]) == x and delinearize(3, x, radices) == list(digits[::-1])
             if radices == radices[:1] * 3:
                 assert digit_word(radices[0], digits[::-1]) == [3, x] and digits_of(radices[0], 3, x) == list(digits[::-1])
+    test_images()
+
+
+# Images that are short to write, with what comes of them: the readings of 02 in the order of the fields.
+SMALLEST = "01000000" "00000000" "10000000" "01000000" "0102030405060708"
+IMAGES = [
+    (SMALLEST, "1"), ("-", "11 at 0"), ("ffffff", "11 at 3"), ("ffffff00", "11 at 0"), ("00000000", "11 at 0"), ("41000000", "11 at 0"),
+    ("40000000", "11 at 4"), (SMALLEST + "00", "11 at 24"), (SMALLEST[:-2], "11 at 23"), (SMALLEST[:32], "11 at 16"), (SMALLEST[:30], "11 at 15"),
+    ("01000000" "02", "11 at 4"), ("01000000" "0041", "11 at 5"), ("01000000" "000041", "11 at 6"), ("01000000" "00000001", "11 at 7"),
+    ("01000000" "014002", "11 at 6"), ("01000000" "01400000" "10000000" "00000000", "11 at 12"), ("01000000" "00000000" "00000000", "11 at 8"),
+    ("01000000" "00000000" "11000000", "11 at 8"), ("01000000" "00000000" "110000", "11 at 11"), ("01000000" "00000000" "10000000" "02000000", "11 at 12"),
+    ("01000000" "00030200" "10000000" "00000000", "11 at 12"), ("01000000" "00061400" "10000000" "68970000", "11 at 12"),
+    ("02000000" "01020100" "1c000000" "01000000" "0102", "11 at 17"), ("02000000" "01000100" "1c000000" "01000000" "00004000" "24000000" "01000000", "11 at 28"),
+    ("02000000" "00000000" "1c000000" "01000000" "09", "11 at 16"),
+]
+
+
+def test_images():
+    for image, says in IMAGES:
+        assert ask("imagecheck " + image).removeprefix("refused ") == says
+        for i in range(0, len(image) if image != "-" else 1, 2):
+            cut = f"{image[:i] or '-'} {image[i:]}"
+            assert ask(f"pieces {cut} end").removeprefix("refused ") == says
+            assert ask(f"imagewrite {cut}").removeprefix("refused ") == (image if says == "1" else says)
+    # Over three quantities (5, 6, 7, 8, 9, 10) at degree 2: the term (0, 2) has rank 3; a table over two quantities does not have it.
+    three = "01000000" "01020300" "10000000" "06000000" + "".join(f"0{i:x}00000000000000" for i in range(5, 11))
+    two = "01000000" "01020200" "10000000" "03000000" + "".join(f"0{i:x}00000000000000" for i in range(5, 8))
+    for image, term, says in [
+        (three, "allowed 3 9", "8"), (three, "allowed 50 9", "8"), (two, "allowed 3 9", "refused 3"), (two, "allowed 2 6", "7"),
+        (two, "forbidden 4 3", "refused 12"), (two, "allowed 2 1", "refused 12"), (two, "allowed 2 9", "refused 7"), (two, "allowed 64 3", "refused 1"),
+        ("-", "allowed 2 9", "refused 7"), ("-", "allowed 2 3", "refused 11 at 0"),
+    ]:
+        assert ask(f"imagelookup {image} {term}") == ask(f"recordlookup 0 {image} {term}") == says
+        assert ask(f"recordlookup 4 {image} {term}") == "refused 7"
 
 
 def main():
