@@ -34,7 +34,7 @@ fn put_header(out: &mut [u8], at: usize, f: Family, n: u64, k: u64, count: u64) 
 }
 
 // The first k symbols of a word, each after a space.
-fn put_symbols(out: &mut [u8], at: usize, word: &[u64], k: u64) -> usize {
+pub fn put_symbols(out: &mut [u8], at: usize, word: &[u64], k: u64) -> usize {
     let mut to = at;
     let mut i = 0;
     while i < word.len() {
