@@ -402,6 +402,28 @@ static void exponents(void)
     }
 }
 
+/* Surfaces of up to 70 entries, their coefficients small, or as large as their degree leaves. */
+static void derivatives(void)
+{
+    static int64_t table[80], result[80];
+    for (unsigned n = 1; n <= 64; n += n < 12 ? 1 : 13) {
+        for (unsigned k = 1; k <= 65 - n; k++) {
+            uint64_t count = 0;
+            if (gudrenoss_count(true, n, k, &count).number != 0 || count > 70) {
+                continue;
+            }
+            for (unsigned kind = 0; kind < 6; kind++) {
+                for (unsigned i = 0; i < count; i++) {
+                    table[i] = kind < 3 ? (int64_t)below(2001) - 1000 : INT64_MAX / (int64_t)k;
+                }
+                unsigned s = kind % 3 == 0 ? 0 : kind % 3 == 1 ? n / 2 : n - 1;
+                about("gudrenoss_derivative", "n %u, k %u, s %u, %s coefficients", n, k, s, kind < 3 ? "small" : "large");
+                CALL(gudrenoss_derivative(n, k, s, table, count, result, 80, &a));
+            }
+        }
+    }
+}
+
 static void child(void)
 {
     ptrace(PTRACE_TRACEME, 0, 0, 0);
@@ -415,6 +437,7 @@ static void child(void)
     shapes();
     digit_words();
     exponents();
+    derivatives();
     _exit(0);
 }
 

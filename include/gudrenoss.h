@@ -4,7 +4,7 @@
  * The source of every function below is proved to do what is said here, for all inputs. docs/RULES.md has the same rules with more
  * examples, docs/PROMISES.md says what the proofs rest on. Link with libgudrenoss.a, which is for x86-64 Linux and needs nothing but
  * memcpy and memset. Sections: one rule, words, pointers, version, refusals, then the functions: terms, signed operations, sets,
- * permutations, shapes, digit words, exponents.
+ * permutations, shapes, digit words, exponents, derivatives.
  *
  * ONE RULE
  *
@@ -20,7 +20,8 @@
  *
  * WORDS
  *
- * number        unsigned, of 64 bits. Every sum and product that a check speaks of is exact: it never wraps.
+ * number        unsigned, of 64 bits; a coefficient of a surface is signed, of 64 bits. Every sum and product that a check speaks
+ *               of is exact: it never wraps.
  * word          a list of numbers, its symbols. Position 0 stands first. Its length is also called its degree, k.
  * alphabet      n stands for the symbols 0 to n - 1. A word is over n if all its symbols are below n.
  * family        a bool. false is Forbidden: no symbol repeats, so the symbols of a word strictly increase and it is a subset.
@@ -55,11 +56,11 @@
  * Memory is the caller's own: the library has no heap, no global state and no locks, keeps no pointer after it returns, and may
  * be called from several threads and from a signal handler. It uses at most 2,624 bytes of stack (docs/FLIGHT.md).
  *
- * - A list that is read is a pointer and its length: const uint64_t *word, size_t word_len. At least that many places must be
- *   readable there, and they must not change during the call.
+ * - A list that is read is a pointer and its length: const uint64_t *word, size_t word_len; of coefficients const int64_t *. At
+ *   least that many places must be readable there, and they must not change during the call.
  * - A buffer that is filled is a pointer and its room: uint64_t *word, size_t word_room. At least that many places must be
  *   writable there. The function writes from place 0 up, stores in *written how many places it has written, and leaves the places
- *   after those as they were. Too little room is refused 8, always as the last check.
+ *   after those as they were. Too little room is refused 8, as the last check (gudrenoss_derivative has its 9 after it).
  * - Every other pointer is to one place that may be written, entries[64] to 64 places; a permutation that is read is 64 places,
  *   whatever its length. None of them is NULL.
  * - Pointers are aligned as their type asks.
@@ -115,7 +116,7 @@ enum gudrenoss_number {
     GUDRENOSS_FAMILY = 6,             /* two families meet, or the complement of an Allowed index is asked for */
     GUDRENOSS_OUTSIDE = 7,            /* a symbol, digit, axis or position is not below its bound, or the symbol is absent */
     GUDRENOSS_SHAPE = 8,              /* lengths or radices differ, or a buffer has too little room */
-    GUDRENOSS_TOO_BIG = 9,            /* the number to be stated is 2^64 or more */
+    GUDRENOSS_TOO_BIG = 9,            /* the number to be stated is 2^64 or more, a signed one outside 64 bits */
     GUDRENOSS_NOT_A_PERMUTATION = 10, /* the entries are no bijection of 0 .. len - 1, or one past the length is not zero */
     GUDRENOSS_BAD_IMAGE = 11,         /* a field of the image is wrong, it ends early or has bytes left over; at tells where */
     GUDRENOSS_NO_SUCH_TABLE = 12      /* the image has no table of that family and degree */
@@ -559,6 +560,23 @@ GUDRENOSS_MUST_USE gudrenoss_refusal gudrenoss_exponents_from_rank(
 GUDRENOSS_MUST_USE gudrenoss_refusal gudrenoss_exponents_add(
     const uint64_t *left, size_t left_len, const uint64_t *right, size_t right_len, uint64_t *entries,
     size_t entries_room, uint64_t *written);
+
+/* ---- Derivatives ------------------------------------------------------------------------------------------------------------
+ * A surface of degree k over n quantities is a table of signed coefficients, one for each Allowed word of k symbols below n, in rank
+ * order. Its derivative by the quantity s is such a table of degree k - 1: the entry at a word is the coefficient of the word with s
+ * added, times the number of times that s stands in it then. */
+
+/* The derivative of a surface by s.
+ *   1  k or the shifted alphabet of n and k is above 64
+ *   7  k is 0
+ *   7  s is not below n
+ *   8  table_len is not the count of Allowed n and k
+ *   8  entries_room is below the count of Allowed n and k - 1
+ *   9  an entry is below -2^63 or above 2^63 - 1
+ *   entries: the table of degree k - 1;  *written: how many entries it has */
+GUDRENOSS_MUST_USE gudrenoss_refusal gudrenoss_derivative(
+    uint64_t n, uint64_t k, uint64_t s, const int64_t *table, size_t table_len, int64_t *entries, size_t entries_room,
+    uint64_t *written);
 
 #ifdef __cplusplus
 }

@@ -502,8 +502,28 @@ def pieces(given):
     return "open"
 
 
-# ---- the requests: a pattern of the words after the verb (F a family, n a number, * a list, P a permutation, B bytes,
-# X pieces, / itself), and the answer
+# ---- derivatives: every term hands its coefficient, times the multiplicity of s, to the word that it leaves when an s is taken out
+
+def derive(room, n, k, s, table):
+    width(n, k)
+    refuse_if(k == 0, OUTSIDE)
+    refuse_if(s >= n, OUTSIDE)
+    refuse_if(len(table) != count("allowed", n, k), SHAPE)
+    entries = [None] * count("allowed", n, k - 1)
+    refuse_if(room < len(entries), SHAPE)
+    for q, c in enumerate(table):
+        term = word_of("allowed", unrank_over("allowed", n, k, q)[1])
+        if s in term:
+            times = term.count(s)
+            term.remove(s)
+            entries[rank("allowed", term)] = c * times
+    refuse_if(not all(-2**63 <= e < 2**63 for e in entries), TOO_BIG)
+    return entries
+
+
+# ---- the requests: a pattern of the words after the verb (F a family, n a number, * a list, Z one of signed numbers, P a permutation,
+# B bytes, X pieces, / itself), and the answer
+
 
 REQUESTS = {
     "count": ("F n n", lambda room, f, n, k: count(f, n, k)),
@@ -562,6 +582,7 @@ REQUESTS = {
     "recordrow": ("n B F n", lambda room, p, b, f, k: by_record(p, image_row, b, f, k)),
     "recordlookup": ("n B F n n", lambda room, p, b, *x: by_record(p, image_lookup, b, x)),
     "pieces": ("X", lambda room, given: pieces(given)),
+    "derive": ("n n n / Z", lambda room, n, k, s, table: derive(room, n, k, s, table)),
 }
 
 
@@ -581,9 +602,21 @@ def bytes_of(word):
     return b"" if word == "-" else bytes.fromhex(word)
 
 
+def signed(word):
+    if not re.fullmatch("0|-?[1-9][0-9]*", word) or not -2**63 <= int(word) < 2**63:
+        raise Bad
+    return int(word)
+
+
 def arguments(pattern, words):
     taken = []
     for part in pattern.split():
+        if part == "Z":
+            taken.append([signed(w) for w in words])
+            if len(words) > MAX_LIST:
+                raise Bad
+            words = []
+            continue
         if part in "*P":
             stop = words.index("/") if "/" in words else len(words)
             raw = part == "P" and words[:1] == ["raw"]
@@ -677,6 +710,15 @@ def test():
             if family == "allowed":
                 entries = exp_unrank(n, n, k, r)
                 assert exp_word(entries) == word and exp_from(n, n, word[::-1]) == entries
+    for n, k in itertools.product(range(1, 4), range(1, 5)):
+        table = [(-1)**q * (7 * q + 3) for q in range(count("allowed", n, k))]
+        terms_of = [tuple(word_of("allowed", unrank_over("allowed", n, k, q)[1])) for q in range(len(table))]
+        for s in range(n):
+            for r, entry in enumerate(derive(99, n, k, s, table)):
+                w = word_of("allowed", unrank_over("allowed", n, k - 1, r)[1])
+                assert entry == sum(c for u, c in zip(terms_of, table) for p in range(k) if u[p] == s and list(u[:p] + u[p + 1:]) == w)
+            for t in range(n if k > 1 else 0):
+                assert derive(99, n, k - 1, t, derive(99, n, k, s, table)) == derive(99, n, k - 1, s, derive(99, n, k, t, table))
     for n in range(6):
         for r, p in enumerate(map(list, sorted(itertools.permutations(range(n)), key=lambda p: p[::-1]))):
             x = record(n, p)

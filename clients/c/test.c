@@ -41,6 +41,8 @@ static int ins, checks, failed;
 #define IN(...) lend(LIST(__VA_ARGS__)), COUNT(__VA_ARGS__)
 #define EMPTY lent.in[0].place, 0
 #define P(...) permutation(LIST(__VA_ARGS__)), COUNT(__VA_ARGS__)
+#define TABLE(...) (const int64_t *)IN(__VA_ARGS__)
+#define ENTRIES_OUT(room) (int64_t *)lent.out.place, room
 #define RISING(len) rising_entries(len), len
 #define ENTRIES lent.out.place, X
 
@@ -947,6 +949,32 @@ static void test_exponents(void)
     refused(gudrenoss_exponents_add(IN(33), IN(32), OUT(3), X), TOO_WIDE);
 }
 
+/* ---- Derivatives ------------------------------------------------------------------------------------------------------------ */
+
+static void test_derivative(void)
+{
+    const uint64_t half = (uint64_t)1 << 62, minus_half = (uint64_t)0 - half, lowest = high_bit, less = high_bit + half - 1;
+    list(gudrenoss_derivative(2, 2, 0, TABLE(5, 6, 7), ENTRIES_OUT(2), X), 10, 6);
+    list(gudrenoss_derivative(2, 2, 1, TABLE(5, 6, 7), ENTRIES_OUT(5), X), 6, 14);
+    list(gudrenoss_derivative(3, 2, 1, TABLE(1, 2, 3, 4, 5, 6), ENTRIES_OUT(3), X), 2, 6, 5);
+    list(gudrenoss_derivative(1, 64, 0, TABLE(top), ENTRIES_OUT(1), X), (uint64_t)0 - 64);
+    list(gudrenoss_derivative(64, 1, 63, (const int64_t *)same(9), 64, ENTRIES_OUT(1), X), 9);
+    list(gudrenoss_derivative(2, 2, 0, TABLE(minus_half, lowest, 0), ENTRIES_OUT(2), X), lowest, lowest);
+    refused(gudrenoss_derivative(2, 2, 0, TABLE(half, 0, 0), ENTRIES_OUT(2), X), TOO_BIG);
+    refused(gudrenoss_derivative(2, 2, 1, TABLE(0, 0, less), ENTRIES_OUT(2), X), TOO_BIG);
+    refused(gudrenoss_derivative(2, 2, 0, TABLE(half, 0, 0), ENTRIES_OUT(1), X), SHAPE);
+    refused(gudrenoss_derivative(2, 2, 0, TABLE(5, 6), ENTRIES_OUT(2), X), SHAPE);
+    refused(gudrenoss_derivative(2, 2, 0, TABLE(5, 6, 7, 8), ENTRIES_OUT(2), X), SHAPE);
+    refused(gudrenoss_derivative(2, 2, 2, TABLE(5, 6), ENTRIES_OUT(0), X), OUTSIDE);
+    refused(gudrenoss_derivative(2, 2, top, TABLE(5, 6), ENTRIES_OUT(0), X), OUTSIDE);
+    refused(gudrenoss_derivative(0, 1, 0, NULL, 0, NULL, 0, X), OUTSIDE);
+    refused(gudrenoss_derivative(2, 0, 0, NULL, 0, NULL, 0, X), OUTSIDE);
+    refused(gudrenoss_derivative(65, 0, 0, NULL, 0, NULL, 0, X), TOO_WIDE);
+    refused(gudrenoss_derivative(64, 2, 0, NULL, 0, NULL, 0, X), TOO_WIDE);
+    refused(gudrenoss_derivative(0, 65, 0, NULL, 0, NULL, 0, X), TOO_WIDE);
+    refused(gudrenoss_derivative(top, 2, 0, NULL, 0, NULL, 0, X), TOO_WIDE);
+}
+
 int main(void)
 {
     fresh();
@@ -975,6 +1003,7 @@ int main(void)
     test_shapes();
     test_digits();
     test_exponents();
+    test_derivative();
     printf("%d checks, %d failed\n", checks, failed);
     return failed > 0;
 }

@@ -800,6 +800,35 @@ static struct outcome call_exponents_add(void)
         model_exponents_add(at(&left), left.len, at(&right), right.len, out.len)};
 }
 
+/* A table: mostly of the count of its degree, that is at most 70; coefficients of every size, many at the edge of some multiplicity. */
+static int64_t coefficient(void)
+{
+    int64_t m = 1 + (int64_t)below(12);
+    switch (below(6)) {
+    case 0: return (int64_t)any();
+    case 1: return INT64_MAX / m - (m > 1 ? 1 : 2) + (int64_t)below(3);
+    case 2: return INT64_MIN / m + (m > 1 ? 1 : 2) - (int64_t)below(3);
+    case 3: return 0;
+    default: return (int64_t)below(2001) - 1000;
+    }
+}
+
+static struct outcome call_derivative(void)
+{
+    uint64_t n = below(8) == 0 ? number(64) : 1 + below(4), k = below(8) == 0 ? number(64) : 1 + below(5);
+    uint64_t s = n == 0 || below(16) == 0 ? number(64) : below(n);
+    fresh(below(4) == 0 ? room() : most);
+    struct answer count = model_count(true, n, k);
+    left.len = count.refusal || count.value[0] > 70 || below(16) == 0 ? below(71) : count.value[0];
+    bool small = coin();
+    for (size_t i = 0; i < left.len; i++)
+        at(&left)[i] = small ? below(2001) - 1000 : (uint64_t)coefficient();
+    ready();
+    return (struct outcome){gudrenoss_derivative(n, k, s, (const int64_t *)pass(&left), left.len, (int64_t *)pass(&out), out.len,
+                                &value[0].value),
+        model_derivative(n, k, s, (const int64_t *)at(&left), left.len, out.len)};
+}
+
 /* ---- The run ---------------------------------------------------------------------------------------------------------------- */
 
 struct target {
@@ -823,6 +852,7 @@ static struct target targets[] = {
     TARGET(digits_multiplicity), TARGET(digits_stabilizer), TARGET(digits_concat), TARGET(digits_delete),
     TARGET(exponents_word), TARGET(exponents_from_word), TARGET(exponents_rank), TARGET(exponents_from_rank),
     TARGET(exponents_add),
+    TARGET(derivative),
 };
 
 /* The decimal number in text, or 0 where it is none. */

@@ -84,5 +84,6 @@ struct answer model_image_lookup(const uint8_t *image, size_t len, struct index 
 struct answer model_image_write(
     const uint8_t *contents, size_t contents_len, const uint8_t *bodies, size_t bodies_len, uint8_t *joined, size_t room);
 bool model_image_settled(const uint8_t *image, size_t len);
+struct answer model_derivative(uint64_t n, uint64_t k, uint64_t s, const int64_t *table, size_t len, size_t room);
 
 #endif

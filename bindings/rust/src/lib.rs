@@ -2,7 +2,7 @@
 //!
 //! Safe calls of the library behind `include/gudrenoss.h`, whose every function is proved to do what `docs/RULES.md` says, for all
 //! inputs. Nothing here allocates. A call gives its answer or the [`Refusal`] that names why there is none; what is never refused
-//! gives a plain value. Numbers are `u64` throughout.
+//! gives a plain value. Numbers are `u64` throughout, coefficients `i64`.
 //!
 //! | here | what it is |
 //! |---|---|
@@ -12,6 +12,7 @@
 //! | [`Permutation`] | a permutation of up to 64 entries |
 //! | [`Radix`], [`Word`] | shapes, and words of digits over one radix |
 //! | [`Composition`] | a list of exponents |
+//! | [`derivative`] | the derivative of a surface by one of its quantities |
 //!
 //! The names are those of the Rust crate `multiindex` wherever the calls are the same.
 //!
@@ -34,6 +35,7 @@
 mod cartesian;
 mod combination;
 mod composition;
+mod derivative;
 mod monotone;
 mod permutation;
 mod refusal;
@@ -47,6 +49,7 @@ mod sys;
 pub use cartesian::{Radix, Word};
 pub use combination::{Combination, Members};
 pub use composition::Composition;
+pub use derivative::derivative;
 pub use monotone::{MonoIndex, MonoIndices, Repetition};
 pub use permutation::Permutation;
 pub use refusal::Refusal;

@@ -7,9 +7,9 @@ use std::vec::Vec;
 
 const GUARD: usize = 3;
 
-fn try_rooms(wanted: &[u64], call: impl Fn(&mut [u64], &mut u64) -> Status) {
+fn try_rooms<T: Copy + PartialEq + core::fmt::Debug + From<u32>>(wanted: &[T], call: impl Fn(&mut [T], &mut u64) -> Status) {
     for room in 0..=wanted.len() + 2 {
-        let before: Vec<u64> = (0..room + 2 * GUARD).map(|i| 0xa5a5_0000 + i as u64).collect();
+        let before: Vec<T> = (0..room + 2 * GUARD).map(|i| T::from(0xa5a5_0000 + i as u32)).collect();
         let (mut places, mut written) = (before.clone(), 99);
         let Status { number, at } = call(&mut places[GUARD..GUARD + room], &mut written);
         let (mut after, filled) = (before, room >= wanted.len());
@@ -79,5 +79,18 @@ fn exponents() {
     });
     try_rooms(&[1, 3, 3], |entries, written| {
         sys::gudrenoss_exponents_add(&[1, 0, 2], &[0, 3, 1], entries, written)
+    });
+}
+
+#[test]
+fn derivatives() {
+    try_rooms(&[10, 6], |entries, written| {
+        sys::gudrenoss_derivative(2, 2, 0, &[5, 6, 7], entries, written)
+    });
+    try_rooms(&[-3], |entries, written| {
+        sys::gudrenoss_derivative(1, 1, 0, &[-3], entries, written)
+    });
+    try_rooms(&[i64::MIN], |entries, written| {
+        sys::gudrenoss_derivative(1, 64, 0, &[i64::MIN / 64], entries, written)
     });
 }

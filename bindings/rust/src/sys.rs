@@ -136,7 +136,7 @@ unsafe extern "C" {
 }
 
 /// A function with slices: its declaration with the slices taken apart, and a safe function that does so. `[xs]` is a slice that is
-/// read, `{xs}` one that is filled.
+/// read, `{xs}` one that is filled; `[xs: i64]` and `{xs: i64}` are of signed numbers.
 macro_rules! with_slices {
     ($(fn $name:ident($($parameter:tt $(: $kind:ty)?),*);)*) => {
         $(with_slices!(@munch $name () () () $($parameter $(: $kind)?,)*);)*
@@ -147,6 +147,14 @@ macro_rules! with_slices {
     };
     (@munch $name:ident ($($c:tt)*) ($($safe:tt)*) ($($passed:tt)*) {$xs:ident}, $($rest:tt)*) => {
         with_slices!(@munch $name ($($c)* $xs: *mut u64, _: usize,) ($($safe)* $xs: &mut [u64],)
+            ($($passed)* $xs.as_mut_ptr(), $xs.len(),) $($rest)*);
+    };
+    (@munch $name:ident ($($c:tt)*) ($($safe:tt)*) ($($passed:tt)*) [$xs:ident: $of:ty], $($rest:tt)*) => {
+        with_slices!(@munch $name ($($c)* $xs: *const $of, _: usize,) ($($safe)* $xs: &[$of],)
+            ($($passed)* $xs.as_ptr(), $xs.len(),) $($rest)*);
+    };
+    (@munch $name:ident ($($c:tt)*) ($($safe:tt)*) ($($passed:tt)*) {$xs:ident: $of:ty}, $($rest:tt)*) => {
+        with_slices!(@munch $name ($($c)* $xs: *mut $of, _: usize,) ($($safe)* $xs: &mut [$of],)
             ($($passed)* $xs.as_mut_ptr(), $xs.len(),) $($rest)*);
     };
     (@munch $name:ident ($($c:tt)*) ($($safe:tt)*) ($($passed:tt)*) $x:ident: $kind:ty, $($rest:tt)*) => {
@@ -181,6 +189,7 @@ with_slices! {
     fn gudrenoss_exponents_rank([entries], rank: &mut u64);
     fn gudrenoss_exponents_from_rank(n: u64, k: u64, r: u64, {entries}, written: &mut u64);
     fn gudrenoss_exponents_add([left], [right], {entries}, written: &mut u64);
+    fn gudrenoss_derivative(n: u64, k: u64, s: u64, [table: i64], {entries: i64}, written: &mut u64);
 }
 
 /// The number that a call writes.

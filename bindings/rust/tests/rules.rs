@@ -1,7 +1,7 @@
 //! The rules of docs/RULES.md through the bindings: its examples, its corners, and every refusal of every call.
 
 use gudrenoss::Repetition::{Allowed, Forbidden};
-use gudrenoss::{Combination, Composition, MonoIndex, Permutation, Radix, Refusal, Sign, Word};
+use gudrenoss::{derivative, Combination, Composition, MonoIndex, Permutation, Radix, Refusal, Sign, Word};
 
 const TOP: u64 = u64::MAX;
 const HIGH_BIT: u64 = 1 << 63;
@@ -375,4 +375,43 @@ fn exponents() {
         &Composition::new(&[33]).unwrap() + &Composition::new(&[32]).unwrap(),
         Err(Refusal::TooWide)
     );
+}
+
+#[test]
+fn derivatives() {
+    let mut entries = [77; 4];
+    assert_eq!(derivative(2, 2, 0, &[5, 6, 7], &mut entries), Ok(2));
+    assert_eq!(entries, [10, 6, 77, 77]);
+    assert_eq!(derivative(2, 2, 1, &[5, 6, 7], &mut entries), Ok(2));
+    assert_eq!(entries, [6, 14, 77, 77]);
+    assert_eq!(derivative(3, 1, 2, &[1, 2, -3], &mut entries), Ok(1));
+    assert_eq!(entries, [-3, 14, 77, 77]);
+    assert_eq!(derivative(2, 2, 0, &[i64::MIN / 2, i64::MIN, 0], &mut entries), Ok(2));
+    assert_eq!(entries, [i64::MIN, i64::MIN, 77, 77]);
+    let kept = entries;
+    for (refusal, alphabet, degree, symbol, table, room) in [
+        (Refusal::TooWide, 65, 0, 0, &[][..], 4),
+        (Refusal::TooWide, 2, 64, 0, &[][..], 4),
+        (Refusal::TooWide, 0, 65, 0, &[][..], 4),
+        (Refusal::Outside, 2, 0, 0, &[1][..], 4),
+        (Refusal::Outside, 2, 2, 2, &[1][..], 4),
+        (Refusal::Outside, 0, 1, 0, &[][..], 4),
+        (Refusal::Shape, 2, 2, 0, &[1, 2][..], 4),
+        (Refusal::Shape, 2, 2, 0, &[1, 2, 3, 4][..], 4),
+        (Refusal::Shape, 2, 2, 0, &[i64::MAX, 2, 3][..], 1),
+        (Refusal::TooBig, 2, 2, 0, &[1 << 62, 2, 3][..], 4),
+        (Refusal::TooBig, 2, 2, 1, &[1, 2, i64::MIN / 2 - 1][..], 4),
+    ] {
+        assert_eq!(
+            derivative(alphabet, degree, symbol, table, &mut entries[..room]),
+            Err(refusal)
+        );
+        assert_eq!(entries, kept);
+    }
+    // One order may be refused alone: a term that later vanishes is too big.
+    let mut first = [0; 2];
+    assert_eq!(derivative(2, 2, 0, &[1 << 62, 0, 0], &mut first), Err(Refusal::TooBig));
+    assert_eq!(derivative(2, 2, 1, &[1 << 62, 0, 0], &mut first), Ok(2));
+    assert_eq!(derivative(2, 1, 0, &first, &mut entries), Ok(1));
+    assert_eq!(entries[0], 0);
 }

@@ -8,7 +8,9 @@
 //   shapes          count, strides, linearize, delinearize, corner
 //   digit_words     count, from symbols, symbols, symbol, multiplicity, stabilizer, concatenation, deletion
 //   exponents       to a word, from a word, rank, from a rank, addition
+//   derivatives     the derivative of a surface
 //   version         the version of the library
+mod derivatives;
 mod digit_words;
 mod exponents;
 mod permutations;
