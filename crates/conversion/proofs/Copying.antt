@@ -40,14 +40,15 @@ module _ (j : ℕ) (e out : List ℕ) (h : length e ≡ 8) (l : 8 * j + 8 ≤ le
         arith,
         front,
         h,
-        length-append (take (8 * j) out) (e ++ drop (8 * j + 8) out),
-        length-append e (drop (8 * j + 8) out),
+        length-append (take (8 * j) out ++ e) (drop (8 * j + 8) out),
+        length-append (take (8 * j) out) e,
         length-drop (8 * j + 8) out,
       )
 
   pub put-here : entryAt (put j e out) j ≡ e
   put-here =
-      ap (take 8) (drop-at (take (8 * j) out) (e ++ drop (8 * j + 8) out) (8 * j) front)
+      ap (λ (l : List ℕ). entryAt l j) (append-assoc (take (8 * j) out) e (drop (8 * j + 8) out))
+      ∙ ap (take 8) (drop-at (take (8 * j) out) (e ++ drop (8 * j + 8) out) (8 * j) front)
       ∙ take-at e (drop (8 * j + 8) out) 8 h
 
   before : (i : ℕ) (v : List ℕ) → i < j → entryAt (take (8 * j) out ++ v) i ≡ entryAt (take (8 * j) out) i
@@ -63,7 +64,6 @@ module _ (j : ℕ) (e out : List ℕ) (h : length e ≡ 8) (l : 8 * j + 8 ≤ le
       let s : length p + m ≡ 8 * i = omega (arith, k) in
       let t : 8 * j + 8 + m ≡ 8 * i = omega arith in
       ap (λ (x : ℕ). drop x (put j e out)) (sym s)
-      ∙ ap (drop (length p + m)) (sym (append-assoc (take (8 * j) out) e (drop (8 * j + 8) out)))
       ∙ drop-append-add p (drop (8 * j + 8) out) m
       ∙ drop-drop m (8 * j + 8) out
       ∙ ap (λ (x : ℕ). drop x out) t
@@ -73,7 +73,7 @@ module _ (j : ℕ) (e out : List ℕ) (h : length e ≡ 8) (l : 8 * j + 8 ≤ le
     where
       go : Dec (i < j) → entryAt (put j e out) i ≡ entryAt out i
       go (yes b) =
-          before i (e ++ drop (8 * j + 8) out) b ∙ sym (before i (drop (8 * j) out) b) ∙ ap (λ (l : List ℕ). entryAt l i) (take-append-drop (8 * j) out)
+          ap (λ (l : List ℕ). entryAt l i) (append-assoc (take (8 * j) out) e (drop (8 * j + 8) out)) ∙ before i (e ++ drop (8 * j + 8) out) b ∙ sym (before i (drop (8 * j) out) b) ∙ ap (λ (l : List ℕ). entryAt l i) (take-append-drop (8 * j) out)
       go (no b) = ap (take 8) (past i (omega (arith, n)))
 
 -- ---- the test of a length

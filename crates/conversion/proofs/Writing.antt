@@ -1,18 +1,22 @@
 -- The loop of the converter. Assumes nothing.
---   turned-below, turned-back    the place counted from the other end is below the count, and counted so again it is itself
---   place-of-turned    the place that an entry comes from, by how many sets stand later
---   Written back F n k c from base out q    q entries are in their places
+--   turned-below    the place counted from the other end is below the count
+--   Written back a k c from out q    the entries of the first q sets are in their places
 --   written-none, written-more, written-all    before the first, after one more, and at the end
---   Walks F n k c q bits later    the walk stands at the set of rank q, unless it is past the last
+--   Walks a k c q bits later    the walk stands at the set of rank q, unless it is past the last
 --   walks-first, walks-stands, walks-on, walks-past    it begins at the first, stands as the step asks, and goes on
+--   Converting back a k c from out bits later q    both together
+--   later-within    how many sets stand later is below the count
+--   exact, converted-long    where the checks pass both buffers have the count of entries, and so has the converted body
+--   count-refused, given-refused, lent-refused, convert-gives    what the converter says, check by check
 use mathlib.Core.Path.{_≡_, refl, sym, ap, ap₂, subst, _∙_}
 use mathlib.Core.Bool.{Bool, true, false, not}
 use mathlib.Core.Logic.{_⊎_, inl, inr}
 use mathlib.Core.List.{List}
-use Prim.Native.Nat.{ℕ, zero, suc, _+_, _-_, _*_, _^_, _≤_, _<_}
+use Prim.Native.Nat.{ℕ, zero, suc, _+_, _-_, _*_, _%_, _^_, _≤_, _<_}
 use native.Mathlib.Nat.{eq-or-lt-of-le}
 use native.Mathlib.Omega.{arith}
-use borrow.Author.Tests.{lt-ltb}
+use borrow.Author.Tests.{lt-ltb, eqb-true}
+use lib.Dec.{eqb}
 use lib.ListN.{length, take}
 use lib.Seq.{take-all}
 use Rattle.pascal.specs.Choose.{choose}
@@ -26,21 +30,25 @@ use Rattle.words.specs.Next.{first, next}
 use Rattle.words.specs.Bits.{bitsOf, setBits}
 use lib.Pow.{pow-mono}
 use Rattle.pascal.proofs.Choose.{choose-none}
-use Rattle.words.proofs.Unrank.{unrank-is-a-word, unrank-monotone, unrank-long, rank-of-unrank, unrank-of-rank}
-use Rattle.words.proofs.Next.{next-long, next-monotone, next-rank, next-is-a-word}
-use Rattle.words.proofs.Ends.{first-bits, first-is-unrank-zero, first-monotone}
+use Rattle.words.proofs.Unrank.{unrank-is-a-word, rank-of-unrank, unrank-of-rank}
+use Rattle.words.proofs.Next.{next-rank, next-is-a-word}
+use Rattle.words.proofs.Ends.{first-is-unrank-zero}
 use Rattle.words.proofs.Bits.{bits-fit, set-of-bits}
-use Rattle.bits.specs.Mask.{clamped}
+use Rattle.bits.specs.Mask.{LowMask}
 use Rattle.bits.proofs.Mask.{clamped-within}
 use Rattle.successor.specs.Later.{following, later}
-use Rattle.lexicographic.specs.Order.{mirror}
+use Rattle.lexicographic.specs.Order.{mirror, lexRank}
 use Rattle.lexicographic.specs.Later.{laterWords, laterSets}
 use Rattle.lexicographic.specs.Entries.{entryAt, rearranged}
 use Rattle.lexicographic.proofs.Following.{later-of-set, later-below, first-later}
+use Rattle.lexicographic.proofs.Rank.{lex-rank-sum}
+use Rattle.lexicographic.proofs.Bodies.{new-body-long, old-body-long}
 use Rattle.lexicographic.proofs.Entries.{entry-long, rearranged-same}
-use Rattle.lexicographic.proofs.Bodies.{lex-of-below, colex-of-below}
 use Rattle.following.specs.Stands.{Stands}
-use Rattle.conversion.specs.Rules.{placeOf, converted, turned, Exact}
+use Rattle.answers.specs.Says.{refusesWith, refuses, gives, refusedIf, andThen}
+use Rattle.monotone_count.specs.Rules.{countSays}
+use Rattle.monotone_count.proofs.Rules.{Counted, count-given}
+use Rattle.conversion.specs.Rules.{placeOf, converted, convertSays, turned, Exact}
 use Rattle.conversion.proofs.Copying.{put, put-long, put-here, put-elsewhere}
 
 -- ---- places
@@ -53,70 +61,81 @@ turned-back : (round : Bool) (c q : ℕ) → q < c → turned round c (turned ro
 turned-back true c q h = omega arith
 turned-back false c q h = refl
 
-pub place-of-turned : (back : Bool) (F : Family) (n k q later : ℕ) → q < count F n k → later ≡ laterSets (shiftedAlphabet F n k) k q
+place-of-turned : (back : Bool) (F : Family) (n k q later : ℕ) → q < count F n k → later ≡ laterSets (shiftedAlphabet F n k) k q
     → turned (not back) (count F n k) later ≡ placeOf back F n k (turned back (count F n k) q)
-place-of-turned false F n k q m h e = omega (arith, later-of-set F n k q h)
+place-of-turned false F n k q m h e =
+    let l : lexRank F n (unrankOf F k q) ≡ count F n k - 1 - m =
+    omega (arith, e, later-of-set F n k q h, lex-rank-sum F n k (unrankOf F k q) (unrank-is-a-word F n k q h)) in
+    sym l
 place-of-turned true F n k q m h e =
     e ∙ sym (later-of-set F n k q h) ∙ ap (λ (j : ℕ). rankOf F (mirror n (unrankOf F k j))) (omega arith)
 
-pub place-below : (back : Bool) (F : Family) (n k r : ℕ) → r < count F n k → placeOf back F n k r < count F n k
-place-below false F n k r h = lex-of-below F n k r h
-place-below true F n k r h = colex-of-below F n k r h
-
 -- ---- the entries that are written
 
-pub record Written (back : Bool) (F : Family) (n k c : ℕ) (from out : List ℕ) (q : ℕ) : Type 0 where
+-- a is the shifted alphabet: neither the family nor n is needed to say what is written
+pub record Written (back : Bool) (a k c : ℕ) (from out : List ℕ) (q : ℕ) : Type 0 where
   pub long : length out ≡ 8 * c
-  pub done : (j : ℕ) → j < q → entryAt out (turned back c j) ≡ entryAt from (placeOf back F n k (turned back c j))
+  pub done : (j : ℕ) → j < q → entryAt out (turned back c j) ≡ entryAt from (turned (not back) c (laterSets a k j))
 
-pub written-none : (back : Bool) (F : Family) (n k c : ℕ) (from out : List ℕ) → length out ≡ 8 * c → Written back F n k c from out 0
-written-none back F n k c from out e = record { long = e; done = λ j h. absurd (omega arith) }
+pub written-none : (back : Bool) (a k c : ℕ) (from out : List ℕ) → length out ≡ 8 * c → Written back a k c from out 0
+written-none back a k c from out e = record { long = e; done = λ j h. absurd (omega arith) }
 
 turned-apart : (round : Bool) (c i j : ℕ) → i < j → j < c → turned round c i ≡ turned round c j → ⊥
 turned-apart true c i j h l e = omega arith
 turned-apart false c i j h l e = omega arith
 
-pub written-more : (back : Bool) (F : Family) (n k c : ℕ) (from out new : List ℕ) (q i t : ℕ) → c ≡ count F n k → length from ≡ 8 * c → q < c
-    → i ≡ placeOf back F n k (turned back c q) → t ≡ turned back c q → new ≡ put t (entryAt from i) out
-    → Written back F n k c from out q → Written back F n k c from new (q + 1)
-written-more back F n k c from out new q i t z f h e u p w =
+pub written-more : (back : Bool) (a k c : ℕ) (from out new : List ℕ) (q i t : ℕ) → length from ≡ 8 * c → q < c → i < c
+    → i ≡ turned (not back) c (laterSets a k q) → t ≡ turned back c q → new ≡ put t (entryAt from i) out
+    → Written back a k c from out q → Written back a k c from new (q + 1)
+written-more back a k c from out new q i t f h g e u p w =
     record { long = ap length p ∙ put-long t (entryAt from i) out l b ∙ w .long; done = λ j m. ap (λ (o : List ℕ). entryAt o (turned back c j)) p ∙ at j (eq-or-lt-of-le (omega arith)) }
   where
     b : 8 * t + 8 ≤ length out
     b = omega (arith, w .long, u, turned-below back c q h)
 
     l : length (entryAt from i) ≡ 8
-    l = entry-long from i (omega (arith, f, e, z, place-below back F n k (turned back c q) (omega (arith, z, turned-below back c q h))))
+    l = entry-long from i (omega (arith, f, g))
 
-    at : (j : ℕ) → (j ≡ q) ⊎ (j < q) → entryAt (put t (entryAt from i) out) (turned back c j) ≡ entryAt from (placeOf back F n k (turned back c j))
+    at : (j : ℕ) → (j ≡ q) ⊎ (j < q) → entryAt (put t (entryAt from i) out) (turned back c j) ≡ entryAt from (turned (not back) c (laterSets a k j))
     at j (inl s) =
         ap (entryAt (put t (entryAt from i) out)) (ap (turned back c) s ∙ sym u)
         ∙ put-here t (entryAt from i) out l b
-        ∙ ap (entryAt from) (e ∙ ap (λ (m : ℕ). placeOf back F n k (turned back c m)) (sym s))
+        ∙ ap (entryAt from) (e ∙ ap (λ (m : ℕ). turned (not back) c (laterSets a k m)) (sym s))
     at j (inr s) = put-elsewhere t (entryAt from i) out l b (turned back c j) (λ y. turned-apart back c j q s h (y ∙ u)) ∙ w .done j s
 
-pub written-all : (back : Bool) (F : Family) (n k c : ℕ) (from out : List ℕ) → c ≡ count F n k → Written back F n k c from out c → out ≡ converted back F n k from
-written-all back F n k c from out z w =
+pub written-all : (back : Bool) (F : Family) (n k c a : ℕ) (from out : List ℕ) (q : ℕ) → a ≡ shiftedAlphabet F n k → c ≡ count F n k → q ≡ c
+    → Written back a k c from out q → out ≡ converted back F n k from
+written-all back F n k c a from out q y z x w =
     sym
     (ap (λ (d : ℕ). rearranged (placeOf back F n k) d from) (sym z)
     ∙ rearranged-same (placeOf back F n k) c out from (λ r h. sym (at r h))
     ∙ take-all (8 * c) out (omega (arith, w .long)))
   where
+    -- the place that the entry at the place of the set of rank j comes from
+    from-there : (j : ℕ) → j < c → turned (not back) c (laterSets a k j) ≡ placeOf back F n k (turned back c j)
+    from-there j h =
+        ap₂ (λ (d b : ℕ). turned (not back) d (laterSets b k j)) z y
+        ∙ place-of-turned back F n k j (laterSets (shiftedAlphabet F n k) k j) (omega (arith, z)) refl
+        ∙ ap (λ (d : ℕ). placeOf back F n k (turned back d j)) (sym z)
+
+    there : (j : ℕ) → j < c → entryAt out (turned back c j) ≡ entryAt from (placeOf back F n k (turned back c j))
+    there j h = w .done j (omega (arith, x)) ∙ ap (entryAt from) (from-there j h)
+
     at : (r : ℕ) → r < c → entryAt out r ≡ entryAt from (placeOf back F n k r)
     at r h =
-        subst (λ (m : ℕ). entryAt out m ≡ entryAt from (placeOf back F n k m)) (turned-back back c r h) (w .done (turned back c r) (turned-below back c r h))
+        subst (λ (m : ℕ). entryAt out m ≡ entryAt from (placeOf back F n k m)) (turned-back back c r h) (there (turned back c r) (turned-below back c r h))
 
 -- ---- the walk
 
 pub record Walks (a k c q bits later : ℕ) : Type 0 where
   pub set : q < c → setBits bits ≡ unrankOf Forbidden k q
-  pub later : q < c → later ≡ laterSets a k q
+  pub many : q < c → later ≡ laterSets a k q
 
-pub walks-first : (a k c b : ℕ) → c ≡ choose a k → k ≤ 64 → suc b ≡ 2 ^ clamped k → Walks a k c 0 b (c - 1)
-walks-first a k c b e h m =
+pub walks-first : (a k c b m : ℕ) → c ≡ choose a k → k ≤ 64 → LowMask k b → m < 2 ^ 64 → (m + 1) % 2 ^ 64 ≡ c → Walks a k c 0 b m
+walks-first a k c b m e h l f g =
     record {
-      set = λ p. ap setBits (omega (arith, m ∙ ap (λ (j : ℕ). 2 ^ j) (clamped-within k h), first-bits k)) ∙ set-of-bits (first Forbidden k) (first-monotone Forbidden k) ∙ sym (first-is-unrank-zero Forbidden k);
-      later = λ p. omega (arith, first-later a k (omega (arith, e)));
+      set = λ p. l .symbols ∙ ap (first Forbidden) (clamped-within k h) ∙ sym (first-is-unrank-zero Forbidden k);
+      many = λ p. omega (arith, first-later a k (omega (arith, e)), e, g);
     }
 
 pub walks-stands : (a k c q bits m : ℕ) → c ≡ choose a k → a ≤ 64 → suc q < c → Walks a k c q bits m → Stands a k bits m
@@ -126,7 +145,7 @@ walks-stands a k c q bits m e h l w =
       narrow = h;
       word = subst (Word Forbidden a k) (sym s) (unrank-is-a-word Forbidden a k q (omega (arith, e)));
       more = omega (arith, ap (rankOf Forbidden) s, rank-of-unrank Forbidden a k q (omega (arith, e)), e);
-      count = w .later (omega arith) ∙ ap (laterWords Forbidden a) (sym s);
+      count = w .many (omega arith) ∙ ap (laterWords Forbidden a) (sym s);
     }
 
 -- the next set of a set that is not the last
@@ -155,9 +174,49 @@ walks-on a k c q bits m b n e h l w f g =
     let y : b ≡ following bits = f ∙ ap (λ (x : Bool). pick x (following bits) 0) (lt-ltb (following bits) (2 ^ 64) z) in
     record {
       set = λ p. ap setBits y ∙ set-of-bits (next Forbidden (setBits bits)) (v .monotone) ∙ u;
-      later = λ p. g ∙ ap (laterWords Forbidden a) u;
+      many = λ p. g ∙ ap (laterWords Forbidden a) u;
     }
 
 -- past the last set nothing is asked of the walk
 pub walks-past : (a k c q bits m : ℕ) → c ≤ q → Walks a k c q bits m
-walks-past a k c q bits m h = record { set = λ p. absurd (omega arith); later = λ p. absurd (omega arith) }
+walks-past a k c q bits m h = record { set = λ p. absurd (omega arith); many = λ p. absurd (omega arith) }
+
+-- ---- both together
+
+pub record Converting (back : Bool) (a k c : ℕ) (from out : List ℕ) (bits later q : ℕ) : Type 0 where
+  pub within : q ≤ c
+  pub written : Written back a k c from out q
+  pub walks : Walks a k c q bits later
+
+-- how many stand later is below the count
+pub later-within : (a k c q bits m : ℕ) → c ≡ choose a k → q < c → Walks a k c q bits m → m < c
+later-within a k c q bits m e h w =
+    omega (arith, w .many h, e, later-below a k (unrankOf Forbidden k q) (unrank-is-a-word Forbidden a k q (omega (arith, e))))
+
+-- ---- the lengths
+
+pub exact : (F : Family) (n k c : ℕ) (l m : List ℕ) → countSays F n k ≡ gives c → eqb (length l) (8 * c) ≡ true → eqb (length m) (8 * c) ≡ true → Exact F n k c l m
+exact F n k c l m e h g =
+    let d : Counted F n k c = count-given F n k c e in
+    record { degree = d .degree; narrow = d .alphabet; size = d .is; given = eqb-true (length l) (8 * c) h; lent = eqb-true (length m) (8 * c) g }
+
+pub converted-long : (back : Bool) (F : Family) (n k c : ℕ) (l m : List ℕ) → Exact F n k c l m → length (converted back F n k l) ≡ length m
+converted-long false F n k c l m x = new-body-long F n k l (x .given ∙ ap (λ (d : ℕ). 8 * d) (x .size)) ∙ x .given ∙ sym (x .lent)
+converted-long true F n k c l m x = old-body-long F n k l (x .given ∙ ap (λ (d : ℕ). 8 * d) (x .size)) ∙ x .given ∙ sym (x .lent)
+
+-- ---- what the converter says, check by check
+
+module _ (back : Bool) (F : Family) (n k : ℕ) (l : List ℕ) (room : ℕ) where
+  pub count-refused : (e : ℕ) (p : List ℕ) → countSays F n k ≡ refusesWith e p → convertSays back F n k l room ≡ refusesWith e p
+  count-refused e p q =
+      ap (λ s. andThen s (λ c. refusedIf (not (eqb (length l) (8 * c))) 8 (refusedIf (not (eqb room (8 * c))) 8 (gives (converted back F n k l))))) q
+
+  pub given-refused : (c : ℕ) → countSays F n k ≡ gives c → eqb (length l) (8 * c) ≡ false → convertSays back F n k l room ≡ refuses 8
+  given-refused c e h = simp (e, h)
+
+  pub lent-refused : (c : ℕ) → countSays F n k ≡ gives c → eqb (length l) (8 * c) ≡ true → eqb room (8 * c) ≡ false → convertSays back F n k l room ≡ refuses 8
+  lent-refused c e h g = simp (e, h, g)
+
+  pub convert-gives : (c : ℕ) → countSays F n k ≡ gives c → eqb (length l) (8 * c) ≡ true → eqb room (8 * c) ≡ true
+      → convertSays back F n k l room ≡ gives (converted back F n k l)
+  convert-gives c e h g = simp (e, h, g)

@@ -57,7 +57,7 @@ fn write(back: bool, family: Family, n: u64, k: u64, c: u64, from: &[u8], out: &
 {
     let a = taking::shifted_alphabet(family, n, k);
     let mut bits = bits::low_mask(k);
-    let mut later = if 0 < c { c - 1 } else { 0 };
+    let mut later = std::num::wrapping_sub_u64(c, 1);
     let mut q: u64 = 0;
     while q < c {
         copy_entry(from, turned(!back, c, later), out, turned(back, c, q));
