@@ -521,6 +521,73 @@ def derive(room, n, k, s, table):
     return entries
 
 
+# ---- old tables: the words over n in lexicographic order, one after the other
+
+def lex_first(family, n, k):
+    """The lexicographically first word of k symbols below n, if there is one."""
+    word = list(range(k)) if family == "forbidden" else [0] * k
+    return word if all(s < n for s in word) else None
+
+
+def lex_later(family, n, word):
+    """The next one: the highest symbol that can be raised is raised, and those above it are the lowest that can stand there."""
+    for p in reversed(range(len(word))):
+        above = len(word) - p
+        rest = [word[p] + 1 + (i if family == "forbidden" else 0) for i in range(above)]
+        if rest[-1] < n:
+            return word[:p] + rest
+    return None
+
+
+def lex_rank(family, n, word):
+    """How many words are earlier: for each position those that agree below it and have a smaller symbol there."""
+    pack(family, n, word)
+    earlier, least = 0, 0
+    for p, s in enumerate(word):
+        left = len(word) - p - 1
+        for x in range(least, s):
+            low = x + 1 if family == "forbidden" else x
+            earlier += comb(shifted_alphabet(family, n - low, left), left)
+        least = s + 1 if family == "forbidden" else s
+    return earlier
+
+
+def lex_unrank(room, family, n, k, r):
+    refuse_if(r >= count(family, n, k), NO_SUCH_RANK)
+    word, least = [], 0
+    for left in reversed(range(k)):
+        for x in range(least, n):
+            low = x + 1 if family == "forbidden" else x
+            c = comb(shifted_alphabet(family, n - low, left), left)
+            if r < c:
+                break
+            r -= c
+        word.append(x)
+        least = low
+    return lend(room, word)
+
+
+def lex_next(room, family, n, word):
+    pack(family, n, word)
+    later = lex_later(family, n, word)
+    refuse_if(later is None, LAST)
+    return lend(room, later)
+
+
+def lex_converted(room, family, n, k, body, back):
+    """The body in the other order. The output has as many bytes as the body, or the room that was asked for."""
+    size = 8 * count(family, n, k)
+    refuse_if(len(body) != size or (len(body) if room is None else room) != size, SHAPE)
+    places, word = [], lex_first(family, n, k)
+    while word is not None:
+        places.append(rank(family, word))
+        word = lex_later(family, n, word)
+    entries = [body[8 * r:8 * r + 8] for r in range(size // 8)]
+    if back:
+        return b"".join(entries[place] for place in places)
+    return b"".join(entries[places.index(place)] for place in range(len(places)))
+
+
 # ---- the requests: a pattern of the words after the verb (F a family, n a number, * a list, Z one of signed numbers, P a permutation,
 # B bytes, X pieces, / itself), and the answer
 
@@ -583,7 +650,15 @@ REQUESTS = {
     "recordlookup": ("n B F n n", lambda room, p, b, *x: by_record(p, image_lookup, b, x)),
     "pieces": ("X", lambda room, given: pieces(given)),
     "derive": ("n n n / Z", lambda room, n, k, s, table: derive(room, n, k, s, table)),
+    "lexrank": ("F n *", lambda room, f, n, w: lex_rank(f, n, w)),
+    "lexunrank": ("F n n n", lambda room, f, n, k, r: lex_unrank(room, f, n, k, r)),
+    "lexnext": ("F n *", lambda room, f, n, w: lex_next(room, f, n, w)),
+    "lexto": ("F n n B", lambda room, f, n, k, b: lex_converted(room, f, n, k, b, False)),
+    "lexfrom": ("F n n B", lambda room, f, n, k, b: lex_converted(room, f, n, k, b, True)),
 }
+
+# These must fit exactly: they are given the room as it was asked for, or None.
+EXACT = ("lexto", "lexfrom")
 
 
 class Bad(Exception):
@@ -643,14 +718,15 @@ def arguments(pattern, words):
 
 
 def asked(line):
-    words, room = line.split(" "), MOST_BYTES
+    words, room, exact = line.split(" "), MOST_BYTES, None
     if words[0] == "room" and len(words) > 1:
-        room, words = min(number(words[1]), MOST_BYTES), words[2:]
+        exact = number(words[1])
+        room, words = min(exact, MOST_BYTES), words[2:]
     verb = 2 if words[:1] == ["step"] else 1
     if " ".join(words[:verb]) not in REQUESTS:
         raise Bad
     pattern, answer = REQUESTS[" ".join(words[:verb])]
-    value = answer(room, *arguments(pattern, words[verb:]))
+    value = answer(exact if words[0] in EXACT else room, *arguments(pattern, words[verb:]))
     if isinstance(value, bytes):
         return value.hex() or "-"
     return " ".join(map(str, value)) if isinstance(value, list) else str(value)
@@ -710,6 +786,14 @@ def test():
             if family == "allowed":
                 entries = exp_unrank(n, n, k, r)
                 assert exp_word(entries) == word and exp_from(n, n, word[::-1]) == entries
+        lex = [list(w) for w in choose(range(n), k)]
+        old = b"".join(r.to_bytes(8, "little") for r in range(len(lex)))
+        new = lex_converted(None, family, n, k, old, False)
+        assert lex == sorted(lex) and lex_converted(None, family, n, k, new, True) == old
+        for r, word in enumerate(lex):
+            assert lex_rank(family, n, word) == r and lex_unrank(k, family, n, k, r) == word
+            assert refusal(lex_next, k, family, n, word) == LAST if r + 1 == len(lex) else lex_next(k, family, n, word) == lex[r + 1]
+            assert int.from_bytes(new[8 * rank(family, word):][:8], "little") == r
     for n, k in itertools.product(range(1, 4), range(1, 5)):
         table = [(-1)**q * (7 * q + 3) for q in range(count("allowed", n, k))]
         terms_of = [tuple(word_of("allowed", unrank_over("allowed", n, k, q)[1])) for q in range(len(table))]
