@@ -2,7 +2,9 @@
 --   damaged-anywhere    with any byte changed, the contents list's too, an image is refused, or every coefficient that it gives is the entry of the term's rank in the table
 --                       that its own rows name
 --   body-damaged-is-good    with a byte of a body changed, an image stays good, with the same tables
+--   rows-stay    and every row call answers as before
 --   other-entries-stay, that-entry-changes    an entry keeps its value exactly if the byte is not one of its eight
+--   other-lookups-stay, that-lookup-changes    so does a coefficient that is looked up
 --   one-entry-has-it    each byte of the bodies is one of exactly one entry's
 use mathlib.Core.Path.{_≡_, refl, sym, ap, _∙_}
 use mathlib.Core.Bool.{Bool, true, false}
@@ -16,14 +18,23 @@ use lib.Dec.{ltb}
 use lib.ListN.{length, getD, set, length-set}
 use lib.Seq.{getD-set-same, getD-set-other}
 use Rattle.answers.specs.declared.Index.{Index}
-use Rattle.answers.specs.Says.{Says, refusesAt, gives}
+use Rattle.words.specs.declared.Family.{Family}
+use Rattle.words.specs.Rank.{rankOf}
+use Rattle.bits.specs.Member.{reaches}
+use Rattle.taking.specs.Taken.{taken}
+use Rattle.taking.proofs.Accepted.{taken-gives}
+use Rattle.answers.specs.Says.{Says, refusesWith, refusesAt, gives, refusedIf, andThen}
+use Rattle.answers.specs.Terms.{wordOf}
+use Rattle.answers.proofs.Says.{passed, gives-same}
 use Rattle.little_endian.specs.Bytes.{numberAt}
-use Rattle.image_rules.specs.Image.{rowPlace, offsetAt, entriesAt, bodyPlace, checkSays, imageSays}
+use Rattle.image_rules.specs.Image.{rowPlace, alphabetAt, offsetAt, entriesAt, bodyPlace, checkSays, imageSays}
 use Rattle.image_rules.proofs.Good.{Good, good-exactly, bodies-rise}
-use Rattle.image_rules.proofs.Local.{good-same, Shape, good, bad, check-shape}
+use Rattle.image_rules.proofs.Local.{Same, number-same, good-same, Shape, good, bad, check-shape}
 use Rattle.image_reading.specs.declared.Table.{Table}
-use Rattle.image_reading.specs.Reading.{tableAt}
-use Rattle.image_lookup.specs.Lookup.{entryOf, lookupSays}
+use Rattle.image_reading.specs.Reading.{numberOfFamily, findRow, tableAt, rowSays}
+use Rattle.image_reading.proofs.Looking.{found-of}
+use Rattle.image_lookup.specs.Lookup.{entryOf, coefficientSays, lookupSays}
+use Rattle.image_lookup.proofs.Looking.{RowIs}
 use Rattle.image_promises.proofs.Lookups.{Entry, lookup-is-entry-of-rank}
 
 -- ---- any byte
@@ -48,6 +59,42 @@ body-damaged-is-good l t j v e h =
   where
     checked : ℕ → Says ℕ
     checked n = checkSays (set l j v) n
+
+-- a byte that the contents list has not
+read-same : (l : List ℕ) (t j v : ℕ) → rowPlace t ≤ j → Same (set l j v) l (rowPlace t)
+read-same l t j v h i a b = getD-set-other l j i v 0 (λ q. omega arith)
+
+find-same : (l m : List ℕ) (f k n : ℕ) → Same m l (rowPlace n) → n ≤ 64 → findRow m f k n ≡ findRow l f k n
+unfolding findRow
+find-same l m f k zero h a = refl
+find-same l m f k (suc n) h a =
+    cc (h (rowPlace n) (omega arith) (omega arith), h (rowPlace n + 1) (omega arith) (omega arith), find-same l m f k n (λ i b c. h i (omega arith) c) (omega arith))
+
+table-same : (l m : List ℕ) (t i : ℕ) → Same m l (rowPlace t) → t ≤ 64 → i < t → tableAt m i ≡ tableAt l i
+table-same l m t i h a b =
+    let x : alphabetAt m i ≡ alphabetAt l i = h (rowPlace i + 2) (omega arith) (omega arith) in
+    let y : offsetAt m i ≡ offsetAt l i = number-same m l (rowPlace t) h (rowPlace i + 4) 4 (omega arith) (omega arith) in
+    let z : entriesAt m i ≡ entriesAt l i = number-same m l (rowPlace t) h (rowPlace i + 8) 4 (omega arith) (omega arith) in
+    ap (λ (n : ℕ). record { alphabet = n; offset = offsetAt m i; entries = entriesAt m i }) x
+    ∙ ap (λ (n : ℕ). record { alphabet = alphabetAt l i; offset = n; entries = entriesAt m i }) y
+    ∙ ap (λ (n : ℕ). record { alphabet = alphabetAt l i; offset = offsetAt l i; entries = n }) z
+
+pub rows-stay : (l : List ℕ) (t j v : ℕ) (F : Family) (k : ℕ) → imageSays l ≡ gives t → rowPlace t ≤ j → rowSays (set l j v) F k ≡ rowSays l F k
+rows-stay l t j v F k e h =
+    ap (λ (s : Says ℕ). andThen (andThen s (λ (n : ℕ). findRow (set l j v) f k n)) (λ (i : ℕ). gives (tableAt (set l j v) i))) (body-damaged-is-good l t j v e h)
+    ∙ ap (λ (s : Says ℕ). andThen s (λ (i : ℕ). gives (tableAt (set l j v) i))) (find-same l (set l j v) f k t (read-same l t j v h) few)
+    ∙ go (findRow l f k t) refl
+    ∙ sym (ap (λ (s : Says ℕ). andThen (andThen s (λ (n : ℕ). findRow l f k n)) (λ (i : ℕ). gives (tableAt l i))) e)
+  where
+    f : ℕ
+    f = numberOfFamily F
+
+    few : t ≤ 64
+    few = good-exactly l (length l) t .0 e .few
+
+    go : (s : Says ℕ) → findRow l (numberOfFamily F) k t ≡ s → andThen s (λ (i : ℕ). gives (tableAt (set l j v) i)) ≡ andThen s (λ (i : ℕ). gives (tableAt l i))
+    go (refusesWith d c) q = refl
+    go (gives i) q = ap gives (table-same l (set l j v) t i (read-same l t j v h) few (found-of l (numberOfFamily F) k t i q .below))
 
 -- ---- the numbers around one byte
 
@@ -96,6 +143,30 @@ other-entries-stay l j v t r h =
 
 pub that-entry-changes : (l : List ℕ) (j v : ℕ) (t : Table) (r : ℕ) → j < length l → (v ≡ getD l j 0 → ⊥) → OfEntry j t r → entryOf (set l j v) t r ≡ entryOf l t r → ⊥
 that-entry-changes l j v t r n d h e = d (number-tells l j v (t .offset + 8 * r) 8 n (h .0) (h .1) e)
+
+-- ---- the lookups
+
+module _ (l : List ℕ) (t j v : ℕ) (e : imageSays l ≡ gives t) (h : rowPlace t ≤ j) (x : Index) (T : Table) (r : RowIs l x T) where
+  looked-up : lookupSays (set l j v) x ≡ taken x (coefficientSays (set l j v) x T)
+  looked-up = ap (λ (s : Says Table). taken x (andThen s (coefficientSays (set l j v) x))) (rows-stay l t j v (x .family) (length (wordOf x)) e h ∙ r)
+
+  pub other-lookups-stay : (OfEntry j T (rankOf (x .family) (wordOf x)) → ⊥) → lookupSays (set l j v) x ≡ lookupSays l x
+  other-lookups-stay n =
+      looked-up
+      ∙ ap (λ (c : ℕ). taken x (refusedIf (reaches (T .alphabet) (wordOf x)) 3 (gives c))) (other-entries-stay l j v T (rankOf (x .family) (wordOf x)) n)
+      ∙ sym (ap (λ (s : Says Table). taken x (andThen s (coefficientSays l x))) r)
+
+  pub that-lookup-changes : (c : ℕ) → j < length l → (v ≡ getD l j 0 → ⊥) → OfEntry j T (rankOf (x .family) (wordOf x)) → lookupSays l x ≡ gives c
+      → lookupSays (set l j v) x ≡ gives c → ⊥
+  that-lookup-changes c b d o p q =
+      let k = value l (sym (ap (λ (s : Says Table). taken x (andThen s (coefficientSays l x))) r) ∙ p) in
+      let m = value (set l j v) (sym looked-up ∙ q) in
+      that-entry-changes l j v T (rankOf (x .family) (wordOf x)) b d o (m ∙ sym k)
+    where
+      value : (i : List ℕ) → taken x (coefficientSays i x T) ≡ gives c → entryOf i T (rankOf (x .family) (wordOf x)) ≡ c
+      value i w =
+          let a = taken-gives x (coefficientSays i x T) c w in
+          gives-same (entryOf i T (rankOf (x .family) (wordOf x))) c (passed (reaches (T .alphabet) (wordOf x)) 3 (gives (entryOf i T (rankOf (x .family) (wordOf x)))) c (a .1) .1)
 
 -- ---- each byte of the bodies is one entry's
 

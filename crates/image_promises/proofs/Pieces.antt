@@ -3,6 +3,7 @@
 --   open-or-told    before that, it is the refusal of the check of all bytes fed, joined, where its offset is below their number, and open otherwise
 --   whole-image-waits    so a whole image is open until the end
 --   refusal-is-final    after a refusal nothing changes
+--   parts-are-the-state    a state that is lent in four parts and taken up again is the same, so what is said here of states holds of calls on the parts, one after the other
 --   invented-at-worst    at the end an open state that somebody made up says of some image of as many bytes what the check says of it
 --   invented-too-long    and where it says that more than 65,536 bytes have been seen, it is refused
 use mathlib.Core.Path.{_≡_, refl, sym, ap, _∙_}
@@ -15,10 +16,12 @@ use lib.Seq.{length-take-le, getD-take}
 use Rattle.answers.specs.Says.{Says, refusesAt, gives}
 use Rattle.image_rules.specs.Image.{checkSays, imageSays}
 use Rattle.image_rules.proofs.Local.{check-same, check-over}
-use Rattle.pieces.specs.declared.Verdict.the-variants.{Open, Bad}
+use Rattle.pieces.specs.declared.Verdict.{Verdict}
+use Rattle.pieces.specs.declared.Verdict.the-variants.{Open, Good, Bad}
 use Rattle.pieces.specs.declared.Pieces.{Pieces}
 use Rattle.pieces.specs.Pieces.{start, fed, closed, fedAll, joined, told, verdictSays}
 use Rattle.pieces.proofs.Cutting.{cut-anyhow, told-so-far, told-stays, closed-told, open-says, fed-after-end, end-after-end}
+use Rattle.pieces_lent.specs.Parts.{verdictAt, codeOf, numberIn, stateAt}
 use Rattle.image_promises.specs.Steps.{Step, piece, over, ran, before, isOver}
 
 -- ---- ends anywhere
@@ -55,6 +58,16 @@ unfolding ran
 refusal-is-final p at [] e = refl
 refusal-is-final p at (piece s ∷ ss) e = ap (λ (q : Pieces). ran q ss) (told-stays p at s e) ∙ refusal-is-final p at ss e
 refusal-is-final p at (over ∷ ss) e = ap (λ (q : Pieces). ran q ss) (closed-told p at e) ∙ refusal-is-final p at ss e
+
+-- ---- the state in four parts
+
+pub parts-are-the-state : (p : Pieces) → stateAt (p .bytes) (p .seen) (codeOf (p .verdict)) (numberIn (p .verdict)) ≡ p
+parts-are-the-state p = ap (λ (v : Verdict). record { bytes = p .bytes; seen = p .seen; verdict = v }) (back (p .verdict))
+  where
+    back : (v : Verdict) → verdictAt (codeOf v) (numberIn v) ≡ v
+    back Open = refl
+    back (Good t) = refl
+    back (Bad at) = refl
 
 -- ---- a state that somebody made up
 
