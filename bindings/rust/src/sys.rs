@@ -136,7 +136,7 @@ unsafe extern "C" {
 }
 
 /// A function with slices: its declaration with the slices taken apart, and a safe function that does so. `[xs]` is a slice that is
-/// read, `{xs}` one that is filled; `[xs: i64]` and `{xs: i64}` are of signed numbers.
+/// read, `{xs}` one that is filled; `[xs: u8]` and `{xs: u8}` are of bytes, with i64 of signed numbers.
 macro_rules! with_slices {
     ($(fn $name:ident($($parameter:tt $(: $kind:ty)?),*);)*) => {
         $(with_slices!(@munch $name () () () $($parameter $(: $kind)?,)*);)*
