@@ -1,11 +1,12 @@
 -- A symbol added to a word. Assumes nothing.
 --   insert-front, insert-past    it stands in front of a symbol that is not smaller, and past a smaller one
---   insert-word    the word is one longer, and a word over n
+--   insert-long, insert-increases, insert-word    the word is one longer, increases, and is a word over n
 --   insert-comm    two symbols may be added in either order
 --   insert-many    s added stands there once more
 --   insert-kept    and another symbol as often as before
 --   occurs-at-most    a symbol occurs at most as often as the word is long
 --   insert-inj    two words that are the same with s added are the same
+--   insert-first, insert-behind    the first symbol added to the rest, and what is added behind a first symbol
 --   insert-without    a symbol deleted and added again gives the word
 --   without-increases    a word without a position is a word
 use mathlib.Core.Path.{_≡_, refl, sym, ap, ap₂, subst, _∙_}

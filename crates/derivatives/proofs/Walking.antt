@@ -1,10 +1,10 @@
 -- A walk over the words of one degree in rank order, and the words with a symbol added beside it. Assumes nothing.
---   Raised w    how the next word of w comes about: so many zeros, then the first symbol raised by one, then what stood above
+--   Raised i x xs    how the next word comes about: so many zeros, then the first symbol raised by one, then what stood above
 --   raised    so it does
---   next-below, next-reached    where the first symbol is below s, the word with s added moves by one place
+--   next-below    where the first symbol is below s, the word with s added moves by one place
 --   next-above    where it is not, the places in between are those of the terms without s
 --   occurs-below, occurs-above    how often s stands in the next word
---   first-inserted    the first word with s added
+--   first-inserted, first-occurs    the first word with s added, and how often s stands in the first word
 use mathlib.Core.Path.{_≡_, refl, sym, ap, ap₂, subst, _∙_}
 use mathlib.Core.Bool.{Bool, true, false}
 use mathlib.Core.List.{List, [], _∷_}
