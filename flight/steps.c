@@ -122,6 +122,8 @@ static void terms(void)
                 for (unsigned i = 0; i < 4; i++) {
                     about("gudrenoss_unrank", "allowed %u, n %lu, k %lu, r %lu", f, n, k, ranks[i]);
                     CALL(gudrenoss_unrank(f, n, k, ranks[i], out, 64, &a));
+                    about("gudrenoss_lex_unrank", "allowed %u, n %lu, k %lu, r %lu", f, n, k, ranks[i]);
+                    CALL(gudrenoss_lex_unrank(f, n, k, ranks[i], out, 64, &a));
                     about("gudrenoss_unrank_over", "allowed %u, n %lu, k %lu, r %lu", f, n, k, ranks[i]);
                     CALL(gudrenoss_unrank_over(f, n, k, ranks[i], &a, &b));
                 }
@@ -143,6 +145,25 @@ static void terms(void)
     }
 }
 
+/* Bodies of at most 80 entries: the instructions grow with the count. */
+static void old_tables(void)
+{
+    for (unsigned f = 0; f < 2; f++) {
+        for (uint64_t n = 0; n <= 9; n++) {
+            for (uint64_t k = 0; k <= 9; k++) {
+                uint64_t count = 0;
+                if (gudrenoss_count(f, n, k, &count).number != 0 || count > 80) {
+                    continue;
+                }
+                about("gudrenoss_lex_to_colex", "allowed %u, n %lu, k %lu", f, n, k);
+                CALL(gudrenoss_lex_to_colex(f, n, k, (const uint8_t *)word, 8 * count, (uint8_t *)out, 8 * count, &a));
+                about("gudrenoss_lex_from_colex", "allowed %u, n %lu, k %lu", f, n, k);
+                CALL(gudrenoss_lex_from_colex(f, n, k, (const uint8_t *)word, 8 * count, (uint8_t *)out, 8 * count, &a));
+            }
+        }
+    }
+}
+
 static void words(void)
 {
     for (unsigned f = 0; f < 2; f++) {
@@ -156,6 +177,10 @@ static void words(void)
                 CALL(gudrenoss_pack(f, n, word, written, &a, &b));
                 about("gudrenoss_rank", "allowed %u, the word of bits %lu", f, bits);
                 CALL(gudrenoss_rank(f, word, written, &a));
+                about("gudrenoss_lex_rank", "allowed %u, n %lu, the word of bits %lu", f, n, bits);
+                CALL(gudrenoss_lex_rank(f, n, word, written, &a));
+                about("gudrenoss_lex_successor", "allowed %u, n %lu, the word of bits %lu", f, n, bits);
+                CALL(gudrenoss_lex_successor(f, n, word, written, out, 64, &a));
                 about("gudrenoss_rank_of", "allowed %u, n %lu, bits %lu", f, n, bits);
                 CALL(gudrenoss_rank_of(f, n, bits, &a));
                 about("gudrenoss_degree", "allowed %u, n %lu, bits %lu", f, n, bits);
@@ -430,6 +455,7 @@ static void child(void)
     raise(SIGSTOP);
     version();
     terms();
+    old_tables();
     words();
     signed_operations();
     sets();

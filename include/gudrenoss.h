@@ -4,7 +4,7 @@
  * The source of every function below is proved to do what is said here, for all inputs. docs/RULES.md has the same rules with more
  * examples, docs/PROMISES.md says what the proofs rest on. Link with libgudrenoss.a, which is for x86-64 Linux and needs nothing but
  * memcpy and memset. Sections: one rule, words, pointers, version, refusals, then the functions: terms, signed operations, sets,
- * permutations, shapes, digit words, exponents, derivatives.
+ * permutations, shapes, digit words, exponents, derivatives, old tables.
  *
  * ONE RULE
  *
@@ -576,6 +576,59 @@ GUDRENOSS_MUST_USE gudrenoss_refusal gudrenoss_exponents_add(
  *   entries: the table of degree k - 1;  *written: how many entries it has */
 GUDRENOSS_MUST_USE gudrenoss_refusal gudrenoss_derivative(
     uint64_t n, uint64_t k, uint64_t s, const int64_t *table, size_t table_len, int64_t *entries, size_t entries_room,
+    uint64_t *written);
+
+/* ---- Old tables -------------------------------------------------------------------------------------------------------------- */
+
+/* Old tables number the words over a fixed alphabet n in lexicographic order: of two words, the earlier has the smaller symbol at the
+ * lowest position where they differ. WIDENING THE ALPHABET RENUMBERS TERMS IN THIS ORDER: Allowed (1, 1) has number 2 over 2 symbols
+ * and 3 over 3. All other functions use the order that stays (see rank above). */
+
+/* The lexicographic rank of a word: how many words of as many symbols below n are lexicographically earlier.
+ *   1  the word has more than 64 symbols, or the shifted alphabet of n and its length is above 64
+ *   2  the word breaks the family's rule; at: the first position whose symbol may not stand after its neighbour
+ *   1  its last shifted symbol is above 63
+ *   7  a symbol is not below n
+ *   *rank: the lexicographic rank
+ * Allowed (0, 2) over 3 has lexicographic rank 2. */
+GUDRENOSS_MUST_USE gudrenoss_refusal gudrenoss_lex_rank(
+    bool allowed, uint64_t n, const uint64_t *word, size_t word_len, uint64_t *rank);
+
+/* The word of k symbols below n that has lexicographic rank r.
+ *   1  k > 64, or the shifted alphabet of n and k is above 64
+ *   3  r is not below the count of n and k
+ *   8  word_room is below k
+ *   word: the word;  *written: k
+ * Allowed 3 2 has the word 1 1 at lexicographic rank 3. */
+GUDRENOSS_MUST_USE gudrenoss_refusal gudrenoss_lex_unrank(
+    bool allowed, uint64_t n, uint64_t k, uint64_t r, uint64_t *word, size_t word_room, uint64_t *written);
+
+/* The next word of as many symbols below n in lexicographic order.
+ *   1, 2, 1, 7  as gudrenoss_lex_rank
+ *   4  no such word is later (so for the empty word)
+ *   8  next_room is below word_len
+ *   next: the word;  *written: word_len
+ * After Allowed (0, 2) over 3 comes 1 1. */
+GUDRENOSS_MUST_USE gudrenoss_refusal gudrenoss_lex_successor(
+    bool allowed, uint64_t n, const uint64_t *word, size_t word_len, uint64_t *next, size_t next_room,
+    uint64_t *written);
+
+/* The body of an old table, its entries in lexicographic order, as that of a new one, by rank: the entry of each word goes from its
+ * lexicographic rank to its rank. An entry is eight bytes, whatever they hold. Here room to spare is refused too.
+ *   1  k > 64, or the shifted alphabet of n and k is above 64
+ *   8  from_len or to_room is not exactly 8 times the count of n and k
+ *   to: the entries by rank;  *written: to_room */
+GUDRENOSS_MUST_USE gudrenoss_refusal gudrenoss_lex_to_colex(
+    bool allowed, uint64_t n, uint64_t k, const uint8_t *from, size_t from_len, uint8_t *to, size_t to_room,
+    uint64_t *written);
+
+/* The way back: the entry of each word goes from its rank to its lexicographic rank. There and back, or back and there, gives the same
+ * bytes.
+ *   1  k > 64, or the shifted alphabet of n and k is above 64
+ *   8  from_len or to_room is not exactly 8 times the count of n and k
+ *   to: the entries in lexicographic order;  *written: to_room */
+GUDRENOSS_MUST_USE gudrenoss_refusal gudrenoss_lex_from_colex(
+    bool allowed, uint64_t n, uint64_t k, const uint8_t *from, size_t from_len, uint8_t *to, size_t to_room,
     uint64_t *written);
 
 #ifdef __cplusplus

@@ -975,6 +975,58 @@ static void test_derivative(void)
     refused(gudrenoss_derivative(top, 2, 0, NULL, 0, NULL, 0, X), TOO_WIDE);
 }
 
+/* ---- Old tables -------------------------------------------------------------------------------------------------------------- */
+
+/* A body of entries, which are the places of a list: 8 bytes each. */
+#define BODY(...) (const uint8_t *)lend(LIST(__VA_ARGS__)), 8 * COUNT(__VA_ARGS__)
+#define BYTES(room) (uint8_t *)lent.out.place, room
+
+static void looks_body(int line, gudrenoss_refusal back, const uint64_t *list, size_t len)
+{
+    put(list, len);
+    looks_number(line, back, 8 * len);
+}
+
+#define body(back, ...) looks_body(__LINE__, back, LIST(__VA_ARGS__))
+
+static void test_old_tables(void)
+{
+    number(gudrenoss_lex_rank(allowed, 2, IN(1, 1), X), 2);
+    number(gudrenoss_lex_rank(allowed, 3, IN(1, 1), X), 3);
+    number(gudrenoss_lex_rank(forbidden, 4, IN(0, 3), X), 2);
+    number(gudrenoss_lex_rank(forbidden, 64, NULL, 0, X), 0);
+    number(gudrenoss_lex_rank(forbidden, 64, rising(), 64, X), 0);
+    refused(gudrenoss_lex_rank(forbidden, 65, IN(5, 4), X), TOO_WIDE);
+    breaks(gudrenoss_lex_rank(forbidden, 4, IN(5, 4), X), 1);
+    refused(gudrenoss_lex_rank(forbidden, 4, IN(64), X), TOO_WIDE);
+    refused(gudrenoss_lex_rank(forbidden, 4, IN(4), X), OUTSIDE);
+    refused(gudrenoss_lex_rank(allowed, 64, IN(0, 0), X), TOO_WIDE);
+    list(gudrenoss_lex_unrank(allowed, 3, 2, 3, OUT(2), X), 1, 1);
+    list(gudrenoss_lex_unrank(forbidden, 4, 2, 2, OUT(70), X), 0, 3);
+    nothing(gudrenoss_lex_unrank(forbidden, 5, 0, 0, NULL, 0, X));
+    refused(gudrenoss_lex_unrank(allowed, 3, 2, 3, OUT(1), X), SHAPE);
+    refused(gudrenoss_lex_unrank(allowed, 2, 2, 3, OUT(0), X), NO_SUCH_RANK);
+    refused(gudrenoss_lex_unrank(allowed, 64, 2, 0, OUT(2), X), TOO_WIDE);
+    list(gudrenoss_lex_successor(allowed, 3, IN(0, 2), OUT(2), X), 1, 1);
+    list(gudrenoss_lex_successor(forbidden, 5, IN(0, 3, 4), OUT(9), X), 1, 2, 3);
+    refused(gudrenoss_lex_successor(allowed, 3, IN(2, 2), OUT(0), X), LAST);
+    refused(gudrenoss_lex_successor(forbidden, 3, NULL, 0, OUT(2), X), LAST);
+    refused(gudrenoss_lex_successor(allowed, 3, IN(0, 2), OUT(1), X), SHAPE);
+    refused(gudrenoss_lex_successor(allowed, 2, IN(0, 2), OUT(0), X), OUTSIDE);
+    breaks(gudrenoss_lex_successor(allowed, 2, IN(2, 0), OUT(0), X), 1);
+    body(gudrenoss_lex_to_colex(allowed, 3, 2, BODY(10, 11, 12, 13, 14, 15), BYTES(48), X), 10, 11, 13, 12, 14, 15);
+    body(gudrenoss_lex_from_colex(allowed, 3, 2, BODY(10, 11, 13, 12, 14, 15), BYTES(48), X), 10, 11, 12, 13, 14, 15);
+    body(gudrenoss_lex_to_colex(forbidden, 4, 2, BODY(1, 2, 3, 4, 5, 6), BYTES(48), X), 1, 2, 4, 3, 5, 6);
+    body(gudrenoss_lex_to_colex(forbidden, 3, 3, BODY(9), BYTES(8), X), 9);
+    nothing(gudrenoss_lex_to_colex(allowed, 0, 3, NULL, 0, NULL, 0, X));
+    nothing(gudrenoss_lex_from_colex(allowed, 0, 3, NULL, 0, NULL, 0, X));
+    refused(gudrenoss_lex_to_colex(allowed, 0, 3, NULL, 0, BYTES(1), X), SHAPE);
+    refused(gudrenoss_lex_to_colex(allowed, 3, 2, BODY(10, 11, 12, 13, 14, 15), BYTES(56), X), SHAPE);
+    refused(gudrenoss_lex_to_colex(allowed, 3, 2, BODY(10, 11, 12, 13, 14, 15), BYTES(47), X), SHAPE);
+    refused(gudrenoss_lex_from_colex(allowed, 3, 2, BODY(10, 11, 12, 13, 14), BYTES(48), X), SHAPE);
+    refused(gudrenoss_lex_from_colex(allowed, 64, 2, BODY(10), BYTES(48), X), TOO_WIDE);
+}
+
 int main(void)
 {
     fresh();
@@ -1004,6 +1056,7 @@ int main(void)
     test_digits();
     test_exponents();
     test_derivative();
+    test_old_tables();
     printf("%d checks, %d failed\n", checks, failed);
     return failed > 0;
 }

@@ -829,6 +829,71 @@ static struct outcome call_derivative(void)
         model_derivative(n, k, s, (const int64_t *)at(&left), left.len, out.len)};
 }
 
+static struct outcome call_lex_rank(void)
+{
+    bool allowed = coin();
+    fresh(0);
+    put_word(&left, allowed);
+    uint64_t n = alphabet_for(&left, allowed);
+    ready();
+    return (struct outcome){gudrenoss_lex_rank(allowed, n, pass(&left), left.len, &value[0].value),
+        model_lex_rank(allowed, n, at(&left), left.len)};
+}
+
+static struct outcome call_lex_unrank(void)
+{
+    bool allowed = coin();
+    uint64_t n = number(64), k = number(64), r = some_rank(allowed, n, k);
+    fresh(room());
+    ready();
+    return (struct outcome){gudrenoss_lex_unrank(allowed, n, k, r, pass(&out), out.len, &value[0].value),
+        model_lex_unrank(allowed, n, k, r, out.len)};
+}
+
+static struct outcome call_lex_successor(void)
+{
+    bool allowed = coin();
+    fresh(room());
+    put_word(&left, allowed);
+    uint64_t n = alphabet_for(&left, allowed);
+    ready();
+    return (struct outcome){
+        gudrenoss_lex_successor(allowed, n, pass(&left), left.len, pass(&out), out.len, &value[0].value),
+        model_lex_successor(allowed, n, at(&left), left.len, out.len)};
+}
+
+/* A conversion of a body of at most 64 entries, mostly with the right lengths in bytes. */
+static struct outcome converted(bool back)
+{
+    bool allowed = coin(), narrow = below(8) > 0;
+    uint64_t n = narrow ? below(6) : number(64), k = narrow ? below(5) : number(64);
+    struct answer count = model_count(allowed, n, k);
+    size_t entries = !count.refusal && count.value[0] <= 64 ? (size_t)count.value[0] : below(65);
+    size_t given = 8 * entries, lent = 8 * entries;
+    if (below(8) == 0)
+        given = below(8 * 65);
+    if (below(8) == 0)
+        lent = below(8 * 65);
+    fresh((lent + 7) / 8);
+    left.len = (given + 7) / 8;
+    ready();
+    const uint8_t *from = (const uint8_t *)pass(&left);
+    uint8_t *to = (uint8_t *)pass(&out);
+    gudrenoss_refusal refusal = back ? gudrenoss_lex_from_colex(allowed, n, k, from, given, to, lent, &value[0].value)
+                                     : gudrenoss_lex_to_colex(allowed, n, k, from, given, to, lent, &value[0].value);
+    return (struct outcome){refusal, model_lex_converted(back, allowed, n, k, at(&left), given, lent)};
+}
+
+static struct outcome call_lex_to_colex(void)
+{
+    return converted(false);
+}
+
+static struct outcome call_lex_from_colex(void)
+{
+    return converted(true);
+}
+
 /* ---- The run ---------------------------------------------------------------------------------------------------------------- */
 
 struct target {
@@ -853,6 +918,7 @@ static struct target targets[] = {
     TARGET(exponents_word), TARGET(exponents_from_word), TARGET(exponents_rank), TARGET(exponents_from_rank),
     TARGET(exponents_add),
     TARGET(derivative),
+    TARGET(lex_rank), TARGET(lex_unrank), TARGET(lex_successor), TARGET(lex_to_colex), TARGET(lex_from_colex),
 };
 
 /* The decimal number in text, or 0 where it is none. */

@@ -85,5 +85,10 @@ struct answer model_image_write(
     const uint8_t *contents, size_t contents_len, const uint8_t *bodies, size_t bodies_len, uint8_t *joined, size_t room);
 bool model_image_settled(const uint8_t *image, size_t len);
 struct answer model_derivative(uint64_t n, uint64_t k, uint64_t s, const int64_t *table, size_t len, size_t room);
+/* The bodies have entries that are whole numbers, and bytes of them are lent. */
+struct answer model_lex_rank(bool allowed, uint64_t n, const uint64_t *word, size_t len);
+struct answer model_lex_unrank(bool allowed, uint64_t n, uint64_t k, uint64_t r, size_t room);
+struct answer model_lex_successor(bool allowed, uint64_t n, const uint64_t *word, size_t len, size_t room);
+struct answer model_lex_converted(bool back, bool allowed, uint64_t n, uint64_t k, const uint64_t *body, size_t bytes, size_t room);
 
 #endif

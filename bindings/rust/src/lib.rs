@@ -6,7 +6,7 @@
 //!
 //! | here | what it is |
 //! |---|---|
-//! | [`Repetition`] | the two families of words: subsets and multisets; counting, ranking and unranking of words |
+//! | [`Repetition`] | the two families of words: subsets and multisets; counting, ranking and unranking of words, also in the lexicographic order of old tables, and the conversion of those |
 //! | [`MonoIndex`], [`MonoIndices`] | a word of a family over its alphabet, as 64 bits; a walk through all words of a degree |
 //! | [`Combination`] | a set of symbols below 64 |
 //! | [`Permutation`] | a permutation of up to 64 entries |
@@ -36,6 +36,7 @@ mod cartesian;
 mod combination;
 mod composition;
 mod derivative;
+mod lexicographic;
 mod monotone;
 mod permutation;
 mod refusal;

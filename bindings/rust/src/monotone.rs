@@ -19,7 +19,7 @@ impl fmt::Display for Repetition {
 }
 
 impl Repetition {
-    fn allowed(self) -> bool {
+    pub(crate) fn allowed(self) -> bool {
         self == Repetition::Allowed
     }
 

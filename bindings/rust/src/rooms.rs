@@ -36,6 +36,15 @@ fn words() {
 }
 
 #[test]
+fn lexicographic_words() {
+    try_rooms(&[1, 1], |word, written| sys::gudrenoss_lex_unrank(true, 3, 2, 3, word, written));
+    try_rooms(&[1, 1], |next, written| sys::gudrenoss_lex_successor(true, 3, &[0, 2], next, written));
+    try_rooms(&[0, 2, 3], |next, written| {
+        sys::gudrenoss_lex_successor(false, 4, &[0, 1, 3], next, written)
+    });
+}
+
+#[test]
 fn shapes() {
     let radices = [2, 3, 4, 5, 6, 7, 8, 9, 1, 1, 1, 1, 1, 1, 1, 2];
     let strides = [

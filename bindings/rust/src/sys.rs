@@ -190,6 +190,11 @@ with_slices! {
     fn gudrenoss_exponents_from_rank(n: u64, k: u64, r: u64, {entries}, written: &mut u64);
     fn gudrenoss_exponents_add([left], [right], {entries}, written: &mut u64);
     fn gudrenoss_derivative(n: u64, k: u64, s: u64, [table: i64], {entries: i64}, written: &mut u64);
+    fn gudrenoss_lex_rank(allowed: bool, n: u64, [word], rank: &mut u64);
+    fn gudrenoss_lex_unrank(allowed: bool, n: u64, k: u64, r: u64, {word}, written: &mut u64);
+    fn gudrenoss_lex_successor(allowed: bool, n: u64, [word], {next}, written: &mut u64);
+    fn gudrenoss_lex_to_colex(allowed: bool, n: u64, k: u64, [from: u8], {to: u8}, written: &mut u64);
+    fn gudrenoss_lex_from_colex(allowed: bool, n: u64, k: u64, [from: u8], {to: u8}, written: &mut u64);
 }
 
 /// The number that a call writes.

@@ -415,3 +415,43 @@ fn derivatives() {
     assert_eq!(derivative(2, 1, 0, &first, &mut entries), Ok(1));
     assert_eq!(entries[0], 0);
 }
+
+#[test]
+fn old_tables() {
+    let (forbidden, allowed) = (Repetition::Forbidden, Repetition::Allowed);
+    // widening the alphabet renumbers
+    assert_eq!(allowed.lexicographic_rank(2, &[1, 1]), Ok(2));
+    assert_eq!(allowed.lexicographic_rank(3, &[1, 1]), Ok(3));
+    // 1, 2 with its position, 1, 7
+    assert_eq!(forbidden.lexicographic_rank(65, &[5, 4]), Err(Refusal::TooWide));
+    assert_eq!(forbidden.lexicographic_rank(4, &[5, 4]), Err(Refusal::NotMonotone { at: 1 }));
+    assert_eq!(forbidden.lexicographic_rank(4, &[64]), Err(Refusal::TooWide));
+    assert_eq!(forbidden.lexicographic_rank(4, &[4]), Err(Refusal::Outside));
+    for (family, n, k) in [(forbidden, 5, 3), (allowed, 3, 3), (forbidden, 4, 0), (forbidden, 3, 3), (allowed, 0, 3)] {
+        let count = family.count(n, k).unwrap();
+        let words: Vec<_> = (0..count).map(|r| family.word_from_lexicographic_rank(n, k, r).unwrap()).collect();
+        assert!(words.windows(2).all(|pair| pair[0][..] < pair[1][..]));
+        for (r, word) in words.iter().enumerate() {
+            assert_eq!(family.lexicographic_rank(n, word), Ok(r as u64));
+            let next = words.get(r + 1).copied().ok_or(Refusal::Last);
+            assert_eq!(family.lexicographic_successor(n, word), next);
+        }
+        assert_eq!(family.word_from_lexicographic_rank(n, k, count), Err(Refusal::NoSuchRank));
+        // each entry, the number of its word in the old order, lands at the rank of that word, and comes back
+        let old: Vec<u8> = (0..count).flat_map(u64::to_le_bytes).collect();
+        let (mut new, mut again) = (vec![0; old.len()], vec![0; old.len()]);
+        family.body_from_lexicographic(n, k, &old, &mut new).unwrap();
+        for (r, word) in words.iter().enumerate() {
+            let at = 8 * family.rank(word).unwrap() as usize;
+            assert_eq!(new[at..at + 8], (r as u64).to_le_bytes());
+        }
+        family.body_to_lexicographic(n, k, &new, &mut again).unwrap();
+        assert_eq!(again, old);
+        // exact lengths: room to spare is refused too
+        let mut longer = vec![7; old.len() + 8];
+        assert_eq!(family.body_from_lexicographic(n, k, &old, &mut longer), Err(Refusal::Shape));
+        assert_eq!(family.body_to_lexicographic(n, k, &longer, &mut new), Err(Refusal::Shape));
+        assert!(longer.iter().all(|&b| b == 7));
+    }
+    assert_eq!(allowed.body_from_lexicographic(64, 2, &[], &mut []), Err(Refusal::TooWide));
+}

@@ -68,16 +68,16 @@ pub extern "C" fn gudrenoss_lex_to_colex(
     allowed: bool,
     n: u64,
     k: u64,
-    old: &[u8],
-    new: &mut [u8],
+    from: &[u8],
+    to: &mut [u8],
     written: &mut u64,
 ) -> Status
-    ensures back { λ a. ⌜ a ≡ status (placesOf (convertSays false (familyOf allowed) n k (now (old .entry)) (length (now (new .entry))))) ⌝ }
-    ensures written { λ a. ⌜ now (written .exit) ≡ stored itself (placesOf (convertSays false (familyOf allowed) n k (now (old .entry)) (length (now (new .entry))))) (now (written .entry)) ⌝ }
-    ensures holds { λ a. ⌜ now (new .exit) ≡ after (convertSays false (familyOf allowed) n k (now (old .entry)) (length (now (new .entry)))) (now (new .entry)) ⌝ }
+    ensures back { λ a. ⌜ a ≡ status (placesOf (convertSays false (familyOf allowed) n k (now (from .entry)) (length (now (to .entry))))) ⌝ }
+    ensures written { λ a. ⌜ now (written .exit) ≡ stored itself (placesOf (convertSays false (familyOf allowed) n k (now (from .entry)) (length (now (to .entry))))) (now (written .entry)) ⌝ }
+    ensures holds { λ a. ⌜ now (to .exit) ≡ after (convertSays false (familyOf allowed) n k (now (from .entry)) (length (now (to .entry)))) (now (to .entry)) ⌝ }
 {
     boundary::number(
-        conversion::convert(false, boundary::family(allowed), n, k, old, new),
+        conversion::convert(false, boundary::family(allowed), n, k, from, to),
         written,
     )
 }
@@ -88,16 +88,16 @@ pub extern "C" fn gudrenoss_lex_from_colex(
     allowed: bool,
     n: u64,
     k: u64,
-    new: &[u8],
-    old: &mut [u8],
+    from: &[u8],
+    to: &mut [u8],
     written: &mut u64,
 ) -> Status
-    ensures back { λ a. ⌜ a ≡ status (placesOf (convertSays true (familyOf allowed) n k (now (new .entry)) (length (now (old .entry))))) ⌝ }
-    ensures written { λ a. ⌜ now (written .exit) ≡ stored itself (placesOf (convertSays true (familyOf allowed) n k (now (new .entry)) (length (now (old .entry))))) (now (written .entry)) ⌝ }
-    ensures holds { λ a. ⌜ now (old .exit) ≡ after (convertSays true (familyOf allowed) n k (now (new .entry)) (length (now (old .entry)))) (now (old .entry)) ⌝ }
+    ensures back { λ a. ⌜ a ≡ status (placesOf (convertSays true (familyOf allowed) n k (now (from .entry)) (length (now (to .entry))))) ⌝ }
+    ensures written { λ a. ⌜ now (written .exit) ≡ stored itself (placesOf (convertSays true (familyOf allowed) n k (now (from .entry)) (length (now (to .entry))))) (now (written .entry)) ⌝ }
+    ensures holds { λ a. ⌜ now (to .exit) ≡ after (convertSays true (familyOf allowed) n k (now (from .entry)) (length (now (to .entry)))) (now (to .entry)) ⌝ }
 {
     boundary::number(
-        conversion::convert(true, boundary::family(allowed), n, k, new, old),
+        conversion::convert(true, boundary::family(allowed), n, k, from, to),
         written,
     )
 }

@@ -9,10 +9,12 @@
 //   digit_words     count, from symbols, symbols, symbol, multiplicity, stabilizer, concatenation, deletion
 //   exponents       to a word, from a word, rank, from a rank, addition
 //   derivatives     the derivative of a surface
+//   lexicographic   rank, unrank and successor in lexicographic order, and the converter of old tables
 //   version         the version of the library
 mod derivatives;
 mod digit_words;
 mod exponents;
+mod lexicographic;
 mod permutations;
 mod sets;
 mod shapes;
