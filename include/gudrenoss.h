@@ -4,7 +4,7 @@
  * The source of every function below is proved to do what is said here, for all inputs. docs/RULES.md has the same rules with more
  * examples, docs/PROMISES.md says what the proofs rest on. Link with libgudrenoss.a, which is for x86-64 Linux and needs nothing but
  * memcpy and memset. Sections: one rule, words, pointers, version, refusals, then the functions: terms, signed operations, sets,
- * permutations, shapes, digit words, exponents, derivatives, old tables.
+ * permutations, shapes, digit words, exponents, images of coefficient tables, images in pieces, derivatives, old tables.
  *
  * ONE RULE
  *
@@ -61,8 +61,9 @@
  * - A buffer that is filled is a pointer and its room: uint64_t *word, size_t word_room. At least that many places must be
  *   writable there. The function writes from place 0 up, stores in *written how many places it has written, and leaves the places
  *   after those as they were. Too little room is refused 8, as the last check (gudrenoss_derivative has its 9 after it).
+ * - An image and its parts are read and filled in the same way, as bytes: const uint8_t *image, size_t image_len. They need no alignment.
  * - Every other pointer is to one place that may be written, entries[64] to 64 places; a permutation that is read is 64 places,
- *   whatever its length. None of them is NULL.
+ *   whatever its length; bytes[772] is 772 bytes that are read and written. None of them is NULL.
  * - Pointers are aligned as their type asks.
  * - A place or buffer that is written must not overlap another one or a list that is read: such a call gives wrong numbers or ends
  *   the program. Two lists that are read may overlap, and a value that is passed may be that of the place of a result, as in
@@ -560,6 +561,91 @@ GUDRENOSS_MUST_USE gudrenoss_refusal gudrenoss_exponents_from_rank(
 GUDRENOSS_MUST_USE gudrenoss_refusal gudrenoss_exponents_add(
     const uint64_t *left, size_t left_len, const uint64_t *right, size_t right_len, uint64_t *entries,
     size_t entries_room, uint64_t *written);
+
+/* ---- Images of coefficient tables --------------------------------------------------------------------------------------------- */
+
+/* An image is at most 65,536 bytes, with every number little-endian: 4 bytes with the number of tables t, 1 to 64; 12 bytes for each table:
+ * family (0 Forbidden, 1 Allowed), degree, alphabet, a zero byte, 4 bytes with the offset of its body, 4 bytes with the number of its entries;
+ * then the bodies, back to back in that order, 8 bytes for each word of the table by rank, ending with the image. Offsets count from the first
+ * byte. The number of entries is the count, never 0, and no family and degree stands twice. "The image's check" judges the fields in reading
+ * order, each by what stands before it, and refuses 11 at the first that is wrong:
+ *     at the degree      it is above 64, or the family and degree stand in a row above
+ *     at the alphabet    the shifted alphabet is above 64
+ *     at the entries     they are not the count, the count is 0, or the body would end past byte 65,536
+ *     at the length      the image ends early, inside a field or body too
+ *     at the first byte left over, behind the last body
+ * An image is read where it lies. Each of these functions checks all of it first, so nothing has to be believed of it. */
+
+/* Checks an image.
+ *   11 the image's check
+ *   *tables: how many tables it has */
+GUDRENOSS_MUST_USE gudrenoss_refusal gudrenoss_image_check(const uint8_t *image, size_t image_len, uint64_t *tables);
+
+/* The table of a family and a degree, which may be any number.
+ *   11 the image's check
+ *   12 no table has this family and degree
+ *   *alphabet: how many symbols its words have;  *offset: where its body begins;  *entries: how many entries it has */
+GUDRENOSS_MUST_USE gudrenoss_refusal gudrenoss_image_row(
+    const uint8_t *image, size_t image_len, bool allowed, uint64_t k, uint64_t *alphabet, uint64_t *offset, uint64_t *entries);
+
+/* The coefficient of a term, given as an index.
+ *   1, 7  the index's checks
+ *   11 the image's check
+ *   12 no table has its family and degree
+ *   3  its word uses a symbol that is not below the alphabet of the table; the index's own n does not matter
+ *   *coefficient: the 8 bytes of its entry */
+GUDRENOSS_MUST_USE gudrenoss_refusal gudrenoss_image_lookup(
+    const uint8_t *image, size_t image_len, bool allowed, uint64_t n, uint64_t bits, uint64_t *coefficient);
+
+/* The coefficient of a term by a table that gudrenoss_image_row has given, without checking the image again: for many terms of one table.
+ *   1, 7  the index's checks
+ *   7  the body of the table, entries of 8 bytes from the offset on, does not lie within the image
+ *   3  the rank of the term is not below entries
+ *   *coefficient: the 8 bytes at its rank
+ * With the table of the term's family and degree in a good image that is what gudrenoss_image_lookup gives; other numbers give other bytes of
+ * the image, and never bytes outside it. */
+GUDRENOSS_MUST_USE gudrenoss_refusal gudrenoss_image_at(
+    const uint8_t *image, size_t image_len, uint64_t alphabet, uint64_t offset, uint64_t entries, bool allowed, uint64_t n,
+    uint64_t bits, uint64_t *coefficient);
+
+/* Writes an image, given as two parts that are split anywhere, as behind the contents list.
+ *   11 the image's check, of the two joined
+ *   8  image_room is below the length of both together
+ *   image: the two joined;  *written: their length */
+GUDRENOSS_MUST_USE gudrenoss_refusal gudrenoss_image_write(
+    const uint8_t *contents, size_t contents_len, const uint8_t *bodies, size_t bodies_len, uint8_t *image, size_t image_room,
+    uint64_t *written);
+
+/* ---- Images in pieces --------------------------------------------------------------------------------------------------------- */
+
+/* The check of an image that comes piece by piece, with a state of fixed size. However the image is cut, what is told after the end is what
+ * gudrenoss_image_check says of the whole. The state is four variables of the caller's, and no function takes this struct: each takes
+ * p.bytes, &p.seen, &p.state and &p.at. Any numbers may stand in them. */
+typedef struct gudrenoss_pieces {
+    uint8_t bytes[772]; /* the first bytes of the image */
+    uint64_t seen;      /* how many bytes have come; 65,537 stands for every larger number */
+    uint64_t state;     /* 0 while more may come, 1 after the end of a good image, 2 where it is bad */
+    uint64_t at;        /* in state 1 the number of tables, in state 2 the offset of the first wrong field, otherwise 0 */
+} gudrenoss_pieces;
+
+/* The state before the first piece. Never refused.
+ *   all four: nothing seen, more may come */
+gudrenoss_refusal gudrenoss_pieces_start(uint8_t bytes[772], uint64_t *seen, uint64_t *state, uint64_t *at);
+
+/* One more piece, of any length, also 0. Never refused: gudrenoss_pieces_verdict tells. In state 1 or 2 nothing changes; any other number than 0
+ * and 1 is read as 2.
+ *   all four: the state after the piece. It is 2 as soon as no byte that follows could mend the image */
+gudrenoss_refusal gudrenoss_pieces_feed(
+    uint8_t bytes[772], uint64_t *seen, uint64_t *state, uint64_t *at, const uint8_t *piece, size_t piece_len);
+
+/* The end of the image. Never refused: gudrenoss_pieces_verdict tells. In state 1 or 2 nothing changes.
+ *   all four: the state after the end */
+gudrenoss_refusal gudrenoss_pieces_end(uint8_t bytes[772], uint64_t *seen, uint64_t *state, uint64_t *at);
+
+/* What is known of the image, by the last two of the four variables.
+ *   11 it is bad; at: as gudrenoss_image_check says it
+ *   *still: whether more may come;  *tables: how many tables it has, 0 while more may come */
+GUDRENOSS_MUST_USE gudrenoss_refusal gudrenoss_pieces_verdict(uint64_t state, uint64_t at, bool *still, uint64_t *tables);
 
 /* ---- Derivatives ------------------------------------------------------------------------------------------------------------
  * A surface of degree k over n quantities is a table of signed coefficients, one for each Allowed word of k symbols below n, in rank

@@ -3,4 +3,6 @@
 #define BARE_STRING_H
 #include <stddef.h>
 int memcmp(const void *a, const void *b, size_t len);
+void *memcpy(void *to, const void *from, size_t len);
+void *memset(void *to, int byte, size_t len);
 #endif

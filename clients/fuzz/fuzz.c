@@ -894,6 +894,243 @@ static struct outcome call_lex_from_colex(void)
     return converted(true);
 }
 
+/* ---- Images ----------------------------------------------------------------------------------------------------------------- */
+
+enum { image_most = 66000 };
+
+/* Bytes that are lent, between guards that are any bytes, and a copy of all of it as it was before the call. */
+struct bytes {
+    uint8_t place[guard + image_most + guard], before[guard + image_most + guard];
+    size_t len;
+};
+
+static struct bytes image, part, filled;
+
+static uint8_t *bytes_at(struct bytes *b)
+{
+    return b->place + guard;
+}
+
+static uint8_t *pass_bytes(struct bytes *b)
+{
+    return b->len == 0 && coin() ? NULL : bytes_at(b);
+}
+
+static void put_number(uint8_t *place, uint64_t n, size_t size)
+{
+    for (size_t i = 0; i < size; i++)
+        place[i] = (uint8_t)(n >> 8 * i);
+}
+
+/* One row more of a good image, if a table that was drawn fits: its degree was not drawn before in this family. */
+static bool put_row(size_t i, bool seen[2][65], uint64_t *end)
+{
+    bool allowed = coin();
+    uint64_t k = below(4) ? below(5) : below(65), n = below(4) ? below(6) : alphabet(allowed, 0, k);
+    struct answer words = model_count(allowed, n, k);
+    if (words.refusal || words.value[0] == 0 || words.value[0] > (below(8) ? 40u : 8000u) || *end + 8 * words.value[0] > 65536 || seen[allowed][k])
+        return false;
+    uint8_t *row = bytes_at(&image) + 4 + 12 * i;
+    seen[allowed][k] = true;
+    row[0] = allowed;
+    row[1] = (uint8_t)k;
+    row[2] = (uint8_t)n;
+    row[3] = 0;
+    put_number(row + 4, *end, 4);
+    put_number(row + 8, words.value[0], 4);
+    *end += 8 * words.value[0];
+    return true;
+}
+
+/* A good image: mostly few tables, sometimes all 64. Its bodies are what the memory held. */
+static void put_image(void)
+{
+    bool seen[2][65] = {{false}};
+    uint64_t tables = below(8) == 0 ? 1 + below(64) : 1 + below(5), end = 4 + 12 * tables;
+    for (size_t i = 0; i < image_most; i += 1 + below(64))
+        bytes_at(&image)[i] = (uint8_t)any();
+    put_number(bytes_at(&image), tables, 4);
+    for (size_t i = 0, tries = 0; i < tables && tries < 4000; tries++)
+        i += put_row(i, seen, &end);
+    image.len = end;
+}
+
+/* A field or byte of the image changed, the image cut or lengthened. */
+static void damage(void)
+{
+    uint64_t tables = bytes_at(&image)[0], row = 4 + 12 * below(tables + 1);
+    size_t at = below(8) ? below(4 + 12 * tables + 2) : below(image.len + 2);
+    switch (below(8)) {
+    case 0: image.len = below(image.len + 1); break;
+    case 1: image.len += image.len < 65600 ? 1 + below(9) : 0; break;
+    case 2: bytes_at(&image)[at] = (uint8_t)any(); break;
+    case 3: bytes_at(&image)[at] ^= (uint8_t)(1 << below(8)); break;
+    case 4: put_number(bytes_at(&image) + row + 4, number(65536), 4); break;
+    case 5: put_number(bytes_at(&image) + row + 8, number(65536), 4); break;
+    case 6: bytes_at(&image)[row + below(4)] = (uint8_t)number(64); break;
+    default: bytes_at(&image)[row] = bytes_at(&image)[4], bytes_at(&image)[row + 1] = bytes_at(&image)[5];
+    }
+}
+
+/* An image that is good or damaged, and its state before the call. Only what lies around its length is looked at afterwards. */
+static void some_image(void)
+{
+    put_image();
+    for (uint64_t times = below(3) == 0 ? 0 : 1 + below(2); times > 0; times--)
+        damage();
+}
+
+static void remember_bytes(struct bytes *b)
+{
+    for (size_t i = 0; i < guard + b->len + guard; i++)
+        b->before[i] = b->place[i];
+}
+
+/* Whether what was lent is as it was from a place on, guards too. */
+static bool kept_bytes(const struct bytes *b, size_t from)
+{
+    bool same = true;
+    for (size_t i = 0; i < guard + b->len + guard; i++)
+        same = same && ((i >= guard && i < guard + from) || b->place[i] == b->before[i]);
+    return same;
+}
+
+/* A broken call is told by a refusal that there is not. */
+static struct answer held(struct answer a, bool good)
+{
+    if (!good)
+        a.refusal = 99;
+    return a;
+}
+
+/* An index: mostly a word of a degree that the image has. */
+static struct index term_of_image(void)
+{
+    const uint8_t *row = bytes_at(&image) + 4 + 12 * below(bytes_at(&image)[0] + (uint64_t)1);
+    if (below(8) == 0 || row[1] > 64)
+        return some_index();
+    uint64_t n = below(2) ? row[2] : row[2] + below(4), r = some_rank(row[0] == 1, n, row[1]);
+    struct answer a = model_unrank_over(row[0] == 1, n, row[1], r);
+    return a.refusal ? some_index() : index_with(row[0] == 1, a.value[1]);
+}
+
+static struct outcome call_image_check(void)
+{
+    some_image();
+    fresh(0);
+    ready();
+    remember_bytes(&image);
+    gudrenoss_refusal back = gudrenoss_image_check(pass_bytes(&image), image.len, &value[0].value);
+    return (struct outcome){back, held(model_image_check(bytes_at(&image), image.len), kept_bytes(&image, 0))};
+}
+
+static struct outcome call_image_row(void)
+{
+    some_image();
+    bool allowed = coin();
+    uint64_t k = below(4) ? below(6) : number(64);
+    fresh(0);
+    ready();
+    remember_bytes(&image);
+    gudrenoss_refusal back = gudrenoss_image_row(
+        pass_bytes(&image), image.len, allowed, k, &value[0].value, &value[1].value, &value[2].value);
+    return (struct outcome){back, held(model_image_row(bytes_at(&image), image.len, allowed, k), kept_bytes(&image, 0))};
+}
+
+static struct outcome call_image_lookup(void)
+{
+    some_image();
+    struct index x = term_of_image();
+    fresh(0);
+    ready();
+    remember_bytes(&image);
+    gudrenoss_refusal back = gudrenoss_image_lookup(pass_bytes(&image), image.len, x.allowed, x.n, x.bits, &value[0].value);
+    return (struct outcome){back, held(model_image_lookup(bytes_at(&image), image.len, x), kept_bytes(&image, 0))};
+}
+
+static struct outcome call_image_at(void)
+{
+    some_image();
+    struct index x = term_of_image();
+    const uint8_t *row = bytes_at(&image) + 4 + 12 * below(bytes_at(&image)[0] + (uint64_t)1);
+    uint64_t n = below(8) ? row[2] : number(64), offset = below(4) ? row[4] + 256 * (uint64_t)row[5] : number(image.len);
+    uint64_t entries = below(4) ? row[8] + 256 * (uint64_t)row[9] : number(image.len / 8);
+    fresh(0);
+    ready();
+    remember_bytes(&image);
+    gudrenoss_refusal back = gudrenoss_image_at(
+        pass_bytes(&image), image.len, n, offset, entries, x.allowed, x.n, x.bits, &value[0].value);
+    return (struct outcome){back, held(model_image_at(bytes_at(&image), image.len, offset, entries, x), kept_bytes(&image, 0))};
+}
+
+static struct outcome call_image_write(void)
+{
+    static uint8_t joined[2 * image_most];
+    some_image();
+    size_t split = below(4) && bytes_at(&image)[0] <= 64 ? 4 + 12 * (size_t)bytes_at(&image)[0] : below(image.len + 1);
+    split = split < image.len ? split : image.len;
+    part.len = image.len - split;
+    for (size_t i = 0; i < part.len; i++)
+        bytes_at(&part)[i] = bytes_at(&image)[split + i];
+    filled.len = below(4) == 0 ? below(image.len + 1) : image.len + (image.len < 65900 ? below(9) : 0) - (image.len > 0 && below(4) == 0);
+    image.len = split;
+    fresh(0);
+    ready();
+    remember_bytes(&image), remember_bytes(&part), remember_bytes(&filled);
+    gudrenoss_refusal back = gudrenoss_image_write(
+        pass_bytes(&image), image.len, pass_bytes(&part), part.len, pass_bytes(&filled), filled.len, &value[0].value);
+    struct answer a = model_image_write(bytes_at(&image), image.len, bytes_at(&part), part.len, joined, filled.len);
+    bool good = kept_bytes(&image, 0) && kept_bytes(&part, 0) && kept_bytes(&filled, a.refusal ? 0 : a.value[0]);
+    for (size_t i = 0; !a.refusal && i < a.value[0]; i++)
+        good = good && bytes_at(&filled)[i] == joined[i];
+    return (struct outcome){back, held(a, good)};
+}
+
+/* Feeds the image in pieces of any lengths, with the end in time, early or twice; what is told after each is held to the model. */
+static struct outcome call_pieces(void)
+{
+    struct {
+        uint64_t low;
+        gudrenoss_pieces p;
+        uint64_t high;
+    } s = {low_guard, {{0}, 1, 2, 3}, high_guard};
+    some_image();
+    fresh(0);
+    ready();
+    remember_bytes(&image);
+    gudrenoss_refusal back = gudrenoss_pieces_start(s.p.bytes, &s.p.seen, &s.p.state, &s.p.at);
+    bool good = back.number == GUDRENOSS_OK && s.p.seen == 0 && s.p.state == 0 && s.p.at == 0, settled = false;
+    struct answer verdict = {0};
+    size_t fed = 0, longest = below(4) == 0 ? 3 : below(2) ? 224 : image_most, most_turns = 40 + below(400);
+    uint64_t state = 0;
+    for (size_t turn = 0; turn < most_turns; turn++) {
+        size_t len = below(longest + 1) < image.len - fed ? below(longest + 1) : image.len - fed;
+        bool end = (fed == image.len && below(2)) || below(200) == 0;
+        len = len < image.len - fed ? len : image.len - fed;
+        gudrenoss_refusal told = end ? gudrenoss_pieces_end(s.p.bytes, &s.p.seen, &s.p.state, &s.p.at)
+                                     : gudrenoss_pieces_feed(s.p.bytes, &s.p.seen, &s.p.state, &s.p.at,
+                                           len == 0 && coin() ? NULL : bytes_at(&image) + fed, len);
+        good = good && told.number == GUDRENOSS_OK && told.at == 0;
+        told = gudrenoss_pieces_verdict(s.p.state, s.p.at, &flag.value, &value[0].value);
+        if (!settled) {
+            fed += end ? 0 : len;
+            settled = end || model_image_settled(bytes_at(&image), fed);
+            verdict = settled ? model_image_check(bytes_at(&image), fed) : verdict;
+            state = !settled ? 0 : verdict.refusal ? 2 : 1;
+        }
+        good = good && told.number == verdict.refusal && told.at == verdict.at && s.p.state == state;
+        good = good && s.p.at == (state == 0 ? 0 : state == 1 ? verdict.value[0] : verdict.at);
+        good = good && (state == 2 || (flag.value == (state == 0) && value[0].value == s.p.at));
+        if (settled && below(4) == 0)
+            break;
+    }
+    good = good && s.low == low_guard && s.high == high_guard && kept_bytes(&image, 0);
+    value[0].value = value_before[0];
+    flag.value = flag_before;
+    verdict.values = 0;
+    return (struct outcome){{verdict.refusal, verdict.at}, held(verdict, good)};
+}
+
 /* ---- The run ---------------------------------------------------------------------------------------------------------------- */
 
 struct target {
@@ -919,6 +1156,7 @@ static struct target targets[] = {
     TARGET(exponents_add),
     TARGET(derivative),
     TARGET(lex_rank), TARGET(lex_unrank), TARGET(lex_successor), TARGET(lex_to_colex), TARGET(lex_from_colex),
+    TARGET(image_check), TARGET(image_row), TARGET(image_lookup), TARGET(image_at), TARGET(image_write), TARGET(pieces),
 };
 
 /* The decimal number in text, or 0 where it is none. */

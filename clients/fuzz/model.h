@@ -81,6 +81,7 @@ struct answer model_exponents_add(const uint64_t *left, size_t left_len, const u
 struct answer model_image_check(const uint8_t *image, size_t len);
 struct answer model_image_row(const uint8_t *image, size_t len, bool allowed, uint64_t k);
 struct answer model_image_lookup(const uint8_t *image, size_t len, struct index x);
+struct answer model_image_at(const uint8_t *image, size_t len, uint64_t offset, uint64_t entries, struct index x);
 struct answer model_image_write(
     const uint8_t *contents, size_t contents_len, const uint8_t *bodies, size_t bodies_len, uint8_t *joined, size_t room);
 bool model_image_settled(const uint8_t *image, size_t len);

@@ -13,6 +13,7 @@
 //! | [`Radix`], [`Word`] | shapes, and words of digits over one radix |
 //! | [`Composition`] | a list of exponents |
 //! | [`derivative`] | the derivative of a surface by one of its quantities |
+//! | [`Image`], [`Pieces`] | an image of coefficient tables that is lent; the check of one that comes in pieces |
 //!
 //! The names are those of the Rust crate `multiindex` wherever the calls are the same.
 //!
@@ -36,6 +37,7 @@ mod cartesian;
 mod combination;
 mod composition;
 mod derivative;
+mod image;
 mod lexicographic;
 mod monotone;
 mod permutation;
@@ -51,6 +53,7 @@ pub use cartesian::{Radix, Word};
 pub use combination::{Combination, Members};
 pub use composition::Composition;
 pub use derivative::derivative;
+pub use image::{Image, Pieces, Table, Tables};
 pub use monotone::{MonoIndex, MonoIndices, Repetition};
 pub use permutation::Permutation;
 pub use refusal::Refusal;

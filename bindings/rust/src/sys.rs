@@ -133,6 +133,10 @@ unsafe extern "C" {
         rank: &mut u64,
     ) -> Status;
     pub safe fn gudrenoss_digits_delete(radix: u64, degree: u64, rank: u64, p: u64, symbol: &mut u64, rest: &mut u64) -> Status;
+
+    pub safe fn gudrenoss_pieces_start(bytes: &mut [u8; 772], seen: &mut u64, state: &mut u64, at: &mut u64) -> Status;
+    pub safe fn gudrenoss_pieces_end(bytes: &mut [u8; 772], seen: &mut u64, state: &mut u64, at: &mut u64) -> Status;
+    pub safe fn gudrenoss_pieces_verdict(state: u64, at: u64, still: &mut bool, tables: &mut u64) -> Status;
 }
 
 /// A function with slices: its declaration with the slices taken apart, and a safe function that does so. `[xs]` is a slice that is
@@ -195,6 +199,12 @@ with_slices! {
     fn gudrenoss_lex_successor(allowed: bool, n: u64, [word], {next}, written: &mut u64);
     fn gudrenoss_lex_to_colex(allowed: bool, n: u64, k: u64, [from: u8], {to: u8}, written: &mut u64);
     fn gudrenoss_lex_from_colex(allowed: bool, n: u64, k: u64, [from: u8], {to: u8}, written: &mut u64);
+    fn gudrenoss_image_check([image: u8], tables: &mut u64);
+    fn gudrenoss_image_row([image: u8], allowed: bool, k: u64, alphabet: &mut u64, offset: &mut u64, entries: &mut u64);
+    fn gudrenoss_image_lookup([image: u8], allowed: bool, n: u64, bits: u64, coefficient: &mut u64);
+    fn gudrenoss_image_at([image: u8], alphabet: u64, offset: u64, entries: u64, allowed: bool, n: u64, bits: u64, coefficient: &mut u64);
+    fn gudrenoss_image_write([contents: u8], [bodies: u8], {image: u8}, written: &mut u64);
+    fn gudrenoss_pieces_feed(bytes: &mut [u8; 772], seen: &mut u64, state: &mut u64, at: &mut u64, [piece: u8]);
 }
 
 /// The number that a call writes.
