@@ -449,6 +449,59 @@ static void derivatives(void)
     }
 }
 
+static uint8_t image[65536], copy[65536];
+
+/* The image with so many tables of one symbol or none: the first half Allowed over `over`, the other Forbidden; its length. */
+static size_t make_image(unsigned tables, unsigned over)
+{
+    size_t end = 4 + 12 * (size_t)tables;
+    memset(image, 0, sizeof image);
+    image[0] = (uint8_t)tables;
+    for (unsigned i = 0; i < tables; i++) {
+        uint8_t *row = image + 4 + 12 * i;
+        unsigned f = i < (tables + 1) / 2, k = f ? i : i - (tables + 1) / 2;
+        uint64_t n = f ? over : k + 1, words = 0;
+        if (gudrenoss_count(f, n, k, &words).number != 0) {
+            _exit(1);
+        }
+        row[0] = (uint8_t)f, row[1] = (uint8_t)k, row[2] = (uint8_t)n;
+        row[4] = (uint8_t)end, row[5] = (uint8_t)(end >> 8);
+        row[8] = (uint8_t)words, row[9] = (uint8_t)(words >> 8);
+        end += 8 * words;
+    }
+    return end;
+}
+
+static void images(void)
+{
+    for (unsigned tables = 1; tables <= 64; tables++) {
+        size_t len = make_image(tables, 2);
+        gudrenoss_pieces p;
+        about("gudrenoss_image_check", "%u tables", tables);
+        CALL(gudrenoss_image_check(image, len, &a));
+        for (unsigned k = 0; k <= 33; k++) {
+            about("gudrenoss_image_row", "%u tables, forbidden, degree %u", tables, k);
+            CALL(gudrenoss_image_row(image, len, 0, k, &a, &b, &c));
+            about("gudrenoss_image_lookup", "%u tables, forbidden, the first %u symbols", tables, k);
+            CALL(gudrenoss_image_lookup(image, len, 0, 64, low(k), &a));
+            about("gudrenoss_image_at", "%u tables, the first %u symbols", tables, k);
+            CALL(gudrenoss_image_at(image, len, 64, 4, 1, 0, 64, low(k), &a));
+        }
+        about("gudrenoss_image_write", "%u tables, split behind the contents list", tables);
+        CALL(gudrenoss_image_write(image, 4 + 12 * tables, image + 4 + 12 * tables, len - 4 - 12 * tables, copy, sizeof copy, &a));
+        about("gudrenoss_pieces_start", "none");
+        CALL(gudrenoss_pieces_start(p.bytes, &p.seen, &p.state, &p.at));
+        for (size_t at = 0, piece = tables % 4 == 0 ? 223 : len; at < len; at += piece) {
+            about("gudrenoss_pieces_feed", "%u tables, a piece of %lu bytes at byte %lu", tables, piece, at);
+            CALL(gudrenoss_pieces_feed(p.bytes, &p.seen, &p.state, &p.at, image + at, len - at < piece ? len - at : piece));
+        }
+        about("gudrenoss_pieces_end", "%u tables", tables);
+        CALL(gudrenoss_pieces_end(p.bytes, &p.seen, &p.state, &p.at));
+        about("gudrenoss_pieces_verdict", "%u tables", tables);
+        CALL(gudrenoss_pieces_verdict(p.state, p.at, &yes, &a));
+    }
+}
+
 static void child(void)
 {
     ptrace(PTRACE_TRACEME, 0, 0, 0);
@@ -464,6 +517,7 @@ static void child(void)
     digit_words();
     exponents();
     derivatives();
+    images();
     _exit(0);
 }
 
