@@ -8,7 +8,7 @@
 use mathlib.Core.Path.{_≡_, refl, sym, ap, ap₂, subst, _∙_}
 use mathlib.Core.Bool.{Bool, true, false}
 use mathlib.Core.Logic.{_⊎_, inl, inr}
-use mathlib.Core.List.{List, [], _∷_, _++_}
+use mathlib.Core.List.{List, _++_}
 use Prim.Native.Nat.{ℕ, zero, suc, _+_, _-_, _≤_, _<_}
 use native.Mathlib.Nat.{eq-or-lt-of-le, le-of-suc-le-suc, suc-inj}
 use native.Mathlib.Numerals.{add-one}
@@ -25,8 +25,7 @@ use Rattle.words.specs.Word.{Word, shifted, unshifted, shiftedAlphabet, count}
 use Rattle.words.specs.Rank.{rankOf}
 use Rattle.words.specs.Unrank.{unrankOf}
 use Rattle.words.specs.Next.{first, next}
-use Rattle.words.specs.Bits.{bitsOf, setBits}
-use Rattle.words.specs.Inversions.{multiplicity}
+use Rattle.words.specs.Bits.{setBits}
 use Rattle.words.proofs.Rank.{rank-below-count}
 use Rattle.words.proofs.Unrank.{unrank-is-a-word, unrank-of-rank, rank-of-unrank, unrank-long, unrank-monotone}
 use Rattle.words.proofs.Bits.{set-of-bits}

@@ -4,19 +4,19 @@
 --   mixed-derivatives-agree    by s and then t is by t and then s, whenever both orders answer
 --   deriving-is-linear    the derivative of a sum of tables is the sum of the derivatives, whenever the three answer
 --   entries-are-by-deletions    each entry is the sum over all deletions of s in all terms that leave its word
-use mathlib.Core.Path.{_≡_, refl, sym, ap, ap₂, subst, _∙_}
-use mathlib.Core.Bool.{Bool, true, false, not}
+use mathlib.Core.Path.{_≡_, sym, ap, ap₂, _∙_}
+use mathlib.Core.Bool.{true, false, not}
 use mathlib.Core.List.{List}
 use Prim.Native.Nat.{ℕ, suc, _-_, _<_}
 use native.Mathlib.Omega.{arith}
 use borrow.Author.Tests.{leb-false, eqb-true, eqb-false, not-false}
 use lib.Dec.{leb, ltb, eqb}
-use lib.ListN.{length, getD}
-use lib.IntN.{ℤ, pos}
+use lib.ListN.{length}
+use lib.IntN.{ℤ}
 use Rattle.words.specs.declared.Family.the-variants.{Allowed}
 use Rattle.words.specs.Word.{Word, shiftedAlphabet, count}
 use Rattle.words.specs.Rank.{rankOf}
-use Rattle.answers.specs.Says.{Says, gives, refusedIf}
+use Rattle.answers.specs.Says.{Says, gives}
 use Rattle.answers.proofs.Says.{gives-same, passed}
 use Rattle.derivatives.specs.Derivative.{coefficient, derivative, sums, byDeletions}
 use Rattle.derivatives.proofs.Mixed.{coefficient-of-derivative, derivatives-commute}

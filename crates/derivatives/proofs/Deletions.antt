@@ -1,7 +1,7 @@
 -- The derivative by deletions. Assumes nothing.
 --   deletions-of    the positions of s in a term give its coefficient to the entry at w as often as s stands there, if the term is w with s added, and nothing otherwise
 --   derivative-is-by-deletions    the entry of the derivative is the sum over all deletions of s of all terms
-use mathlib.Core.Path.{_≡_, refl, sym, ap, ap₂, subst, _∙_}
+use mathlib.Core.Path.{_≡_, sym, ap, subst, _∙_}
 use mathlib.Core.List.{List, [], _∷_}
 use Prim.Native.Nat.{ℕ, zero, suc, _+_, _<_}
 use native.Mathlib.Nat.{zero-add}
@@ -13,7 +13,7 @@ use lib.ListN.{length, getD}
 use lib.IntN.{ℤ, pos, _+ℤ_, _*ℤ_, +ℤ-idl, *ℤ-zero}
 use Rattle.words.specs.declared.Family.the-variants.{Allowed}
 use Rattle.words.specs.Pick.{pick}
-use Rattle.words.specs.Word.{Monotone, Word, count}
+use Rattle.words.specs.Word.{Word, count}
 use Rattle.words.specs.Rank.{rankOf}
 use Rattle.words.specs.Unrank.{unrankOf}
 use Rattle.words.specs.Inversions.{multiplicity}

@@ -23,10 +23,9 @@ use Rattle.words.specs.Pick.{pick}
 use Rattle.words.specs.Word.{Monotone, Below, Word}
 use Rattle.words.specs.Inversions.{multiplicity}
 use Rattle.words.specs.Without.{without}
-use Rattle.words.proofs.Bits.{From}
-use Rattle.merging.specs.Sorting.{Rearranged, insert, sorted}
+use Rattle.merging.specs.Sorting.{insert, sorted}
 use Rattle.merging.proofs.Totals.{by-order, total, total-insert, length-is-total, multiplicity-is-total}
-use Rattle.merging.proofs.Sorting.{from-first, after-first, sorted-increases, sorted-of-increasing, sorted-rearranges, sorted-same, increasing-is-unique}
+use Rattle.merging.proofs.Sorting.{after-first, sorted-increases, sorted-of-increasing, increasing-is-unique}
 
 pub insert-front : (s x : ℕ) (xs : List ℕ) → s ≤ x → insert s (x ∷ xs) ≡ s ∷ x ∷ xs
 unfolding insert

@@ -1,13 +1,13 @@
 -- Deriving is linear. Assumes nothing.
 --   sums-long, sums-at    a sum of tables by its length and its entries
 --   derivative-of-sums    the derivative of the sum of two tables is the sum of their derivatives
-use mathlib.Core.Path.{_≡_, refl, sym, ap, ap₂, subst, _∙_}
+use mathlib.Core.Path.{_≡_, refl, sym, ap, _∙_}
 use mathlib.Core.List.{List, [], _∷_, _++_}
 use Prim.Native.Nat.{ℕ, zero, suc, _<_}
 use native.Mathlib.Nat.{not-suc-le-zero, le-of-suc-le-suc, suc-inj}
 use native.Mathlib.Omega.{arith}
 use lib.ListN.{length, getD}
-use lib.IntN.{ℤ, pos, _+ℤ_, _*ℤ_, +ℤ-comm, +ℤ-assoc, *ℤ-zero}
+use lib.IntN.{ℤ, pos, _+ℤ_, _*ℤ_}
 use Rattle.words.specs.declared.Family.the-variants.{Allowed}
 use Rattle.words.specs.Word.{Word, count}
 use Rattle.words.specs.Rank.{rankOf}

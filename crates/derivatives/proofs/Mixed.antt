@@ -1,12 +1,11 @@
 -- Mixed derivatives are the same in either order. Assumes nothing.
 --   coefficient-of-derivative    the entry of the derivative at a word over n is `derivedAt`
 --   derivatives-commute    by s and then t is by t and then s
-use mathlib.Core.Path.{_≡_, refl, sym, ap, ap₂, subst, _∙_}
+use mathlib.Core.Path.{_≡_, sym, ap, ap₂, subst, _∙_}
 use mathlib.Core.List.{List}
 use Prim.Native.Nat.{ℕ, suc, _*_, _<_}
 use native.Mathlib.Nat.{mul-comm}
 use native.Mathlib.Decide.{ℕ-discrete}
-use native.Mathlib.Omega.{arith}
 use lib.IntN.{ℤ, pos, _*ℤ_}
 use Rattle.words.specs.declared.Family.the-variants.{Allowed}
 use Rattle.words.specs.Word.{Word, count}

@@ -1,16 +1,14 @@
 -- Euler's law, of multiplicities. Assumes nothing.
 --   occurrences-are-the-degree    in a word over n the multiplicities of all symbols add up to its degree
-use mathlib.Core.Path.{_≡_, refl, sym, _∙_}
-use mathlib.Core.Logic.{_⊎_, inl, inr}
+use mathlib.Core.Path.{_≡_, refl, _∙_}
 use mathlib.Core.List.{List, [], _∷_}
-use Prim.Native.Nat.{ℕ, zero, suc, _+_, _<_}
+use Prim.Native.Nat.{ℕ, zero, suc, _<_}
 use native.Mathlib.Decide.{ℕ-discrete}
 use native.Mathlib.Omega.{arith}
 use borrow.Author.Tests.{eq-eqb, ne-eqb}
 use lib.Dec.{eqb}
 use lib.ListN.{length}
 use Rattle.words.specs.declared.Family.{Family}
-use Rattle.words.specs.Pick.{pick}
 use Rattle.words.specs.Word.{Below, Word}
 use Rattle.words.specs.Inversions.{multiplicity}
 use Rattle.derivatives.specs.Derivative.{occurrences}

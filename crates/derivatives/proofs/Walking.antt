@@ -5,16 +5,14 @@
 --   next-above    where it is not, the places in between are those of the terms without s
 --   occurs-below, occurs-above    how often s stands in the next word
 --   first-inserted, first-occurs    the first word with s added, and how often s stands in the first word
-use mathlib.Core.Path.{_≡_, refl, sym, ap, ap₂, subst, _∙_}
+use mathlib.Core.Path.{_≡_, refl, sym, ap, subst, _∙_}
 use mathlib.Core.Bool.{Bool, true, false}
 use mathlib.Core.List.{List, [], _∷_}
 use Prim.Native.Nat.{ℕ, zero, suc, _+_, _-_, _≤_, _<_}
 use native.Mathlib.Nat.{suc-add, add-suc, le-refl}
-use native.Mathlib.Decide.{ℕ-discrete}
 use native.Mathlib.Omega.{arith}
-use borrow.Author.Tests.{ltb-true, ltb-false, eq-eqb, ne-eqb}
+use borrow.Author.Tests.{ltb-true, ltb-false, ne-eqb}
 use lib.Dec.{ltb, eqb}
-use lib.ListN.{length}
 use Rattle.pascal.specs.Choose.{choose}
 use Rattle.pascal.proofs.Choose.{pascal, choose-none, choose-few}
 use Rattle.words.specs.declared.Family.the-variants.{Allowed}
@@ -27,7 +25,7 @@ use Rattle.words.proofs.Next.{reset-rank}
 use Rattle.words.proofs.Bits.{From}
 use Rattle.merging.specs.Sorting.{insert}
 use Rattle.merging.proofs.Sorting.{from-first, none-below}
-use Rattle.derivatives.proofs.Inserted.{insert-front, insert-past, insert-first, insert-behind}
+use Rattle.derivatives.proofs.Inserted.{insert-front, insert-past, insert-behind}
 
 -- the first symbol weighs itself
 one : (a : ℕ) → choose a 1 ≡ a

@@ -5,15 +5,15 @@
 --   sum-none, sum-one, sum-same    a sum of zeros, of zeros but for one term, and of equal terms
 --   entries-long, entries-at    a list by its entries
 --   entries-same    lists of the same entries are the same
-use mathlib.Core.Path.{_≡_, refl, sym, ap, ap₂, subst, _∙_}
+use mathlib.Core.Path.{_≡_, refl, sym, ap, ap₂, _∙_}
 use mathlib.Core.Logic.{_⊎_, inl, inr}
 use mathlib.Core.List.{List, [], _∷_, _++_}
-use Prim.Native.Nat.{ℕ, zero, suc, _+_, _*_, _≤_, _<_}
+use Prim.Native.Nat.{ℕ, zero, suc, _+_, _*_, _<_}
 use native.Mathlib.Nat.{eq-or-lt-of-le, le-of-suc-le-suc, suc-inj, le-step, le-refl, not-suc-le-zero, mul-assoc, zero-mul}
 use native.Mathlib.Omega.{arith}
 use lib.ListN.{length, getD, length-append, List·getD-append}
 use lib.Seq.{getD-at}
-use lib.IntN.{ℤ, pos, negsuc, sucℤ, negℤ, _+ℤ_, _*ℤ_, +ℤ-idl, +ℤ-idr, +ℤ-comm, +ℤ-assoc, *ℤ-comm, *ℤ-zero, sucℤ-*ℤ, pos-*ℤ-pos, negsuc-*ℤ-pos}
+use lib.IntN.{ℤ, pos, negsuc, sucℤ, negℤ, _+ℤ_, _*ℤ_, +ℤ-idl, +ℤ-idr, +ℤ-comm, +ℤ-assoc, *ℤ-comm, *ℤ-zero, sucℤ-*ℤ}
 use Rattle.derivatives.specs.Derivative.{entriesOf, sumTo}
 
 neg-times : (p b : ℕ) → negℤ (pos p) *ℤ pos b ≡ negℤ (pos (p * b))

@@ -1,11 +1,9 @@
 -- `derivative::write` meets its contract: the walk stands at the word of each rank in turn, and one entry is written a turn. Assumes nothing.
-use mathlib.Core.Path.{_≡_, refl, sym, ap, subst, _∙_}
-use mathlib.Core.Bool.{true}
-use mathlib.Core.List.{List, _++_}
+use mathlib.Core.Path.{_≡_, ap, _∙_}
+use mathlib.Core.List.{_++_}
 use Prim.Native.Nat.{ℕ, _+_, _-_, _≤_}
 use native.Mathlib.Omega.{arith}
 use lib.ListN.{length, drop}
-use lib.IntN.{ℤ}
 use mir.Syntax.{w64}
 use mir.Val.{SFits}
 use mir.ValLaws.{toZ-ofZ}
@@ -15,7 +13,7 @@ use Rattle.derivatives.specs.Derivative.{entriesOf}
 use Rattle.products.specs.Range.{inside}
 use Rattle.products.proofs.Ranges.{inside-fits}
 use Rattle.adding.specs.Places.{Placed}
-use Rattle.derivative.specs.Rules.{entryAt, allInside}
+use Rattle.derivative.specs.Rules.{entryAt}
 use Rattle.derivative.proofs.Passes.{placed-first, placed-next, can-move, pass, some-entries, all-at, entries-none, entries-more, entries-keep}
 use Rattle.derivative.proofs.write.Statement.{statement}
 use Rattle.derivative.proofs.write.Tie as tie

@@ -1,5 +1,4 @@
 -- `products::between_quotients` meets its contract, by the laws of `Ranges`. Assumes nothing.
-use native.Mathlib.Omega.{arith}
 use borrow.Author.Needs.{needs}
 use Rattle.products.proofs.Ranges.{most-fits, least-fits, too-great, too-small, in-range}
 use Rattle.products.proofs.between_quotients.Statement.{statement}
