@@ -1,3 +1,4 @@
 pub mod DigitWords
+pub mod Images
 pub mod Permutations
 pub mod Version

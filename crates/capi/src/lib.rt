@@ -8,12 +8,14 @@
 //   shapes          count, strides, linearize, delinearize, corner
 //   digit_words     count, from symbols, symbols, symbol, multiplicity, stabilizer, concatenation, deletion
 //   exponents       to a word, from a word, rank, from a rank, addition
+//   images          check, row, lookup, lookup by a row, writing; the check of an image in pieces
 //   derivatives     the derivative of a surface
 //   lexicographic   rank, unrank and successor in lexicographic order, and the converter of old tables
 //   version         the version of the library
 mod derivatives;
 mod digit_words;
 mod exponents;
+mod images;
 mod lexicographic;
 mod permutations;
 mod sets;
