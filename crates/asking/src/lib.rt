@@ -12,7 +12,11 @@ fn reply_lent(verb: &[u8], kinds: &[u8], values: &[u64], lent: &mut [u64]) -> Re
     let Reply::Bad = r else {
         return r;
     };
-    shape_verbs::reply(verb, kinds, values, lent)
+    let r = shape_verbs::reply(verb, kinds, values, lent);
+    let Reply::Bad = r else {
+        return r;
+    };
+    lexical_verbs::reply(verb, kinds, values, lent)
 }
 
 // How many of n places are lent: as many as are asked for, or all of them.
@@ -25,76 +29,148 @@ fn lent_of(room: u64, n: usize) -> usize
     n
 }
 
-// The answer to a request, given the words after its verb. Permutations are given in any of the places; other calls are lent the first.
-fn answer_verb(
-    verb: &[u8],
-    kinds: &[u8],
-    values: &[u64],
-    room: u64,
-    places: &mut [u64],
-    out: &mut [u8],
-    at: usize,
-) -> usize {
+// The reply to a request, given the words after its verb. Permutations are given in any of the places; other calls are lent the first.
+fn reply_verb(verb: &[u8], kinds: &[u8], values: &[u64], room: u64, places: &mut [u64]) -> Reply {
     let r = permutation_verbs::reply(verb, kinds, values, places);
     let Reply::Bad = r else {
-        return replies::put(out, at, r, places);
+        return r;
     };
     let lent = lent_of(room, places.len());
-    let r = reply_lent(verb, kinds, values, &mut places[0..lent]);
-    replies::put(out, at, r, places)
+    reply_lent(verb, kinds, values, &mut places[0..lent])
 }
 
-// The same of a request whose n words after the verb are taken in. No call writes more than 64 places.
-fn answer_words(
+// The same of a request whose n words after the verb are taken in.
+fn reply_words(
     verb: &[u8],
     n: usize,
     kinds: &[u8],
     values: &[u64],
     room: u64,
-    out: &mut [u8],
-    at: usize,
-) -> usize
+    places: &mut [u64],
+) -> Reply
     requires { ⌜ (n ≤ length (now kinds)) × (n ≤ length (now values)) ⌝ }
 {
-    let mut places = [0u64; 80];
-    answer_verb(
-        verb,
-        &kinds[0..n],
-        &values[0..n],
-        room,
-        &mut places,
-        out,
-        at,
-    )
+    reply_verb(verb, &kinds[0..n], &values[0..n], room, places)
 }
 
-// The answer to a line whose verb stands from place `from` up to `end`. No request has more words after its verb than two lists of 80
-// numbers and the `/` between them.
-fn answer_at(line: &[u8], room: u64, from: usize, end: usize, out: &mut [u8], at: usize) -> usize
+// The reply to a line whose verb stands from place `from` up to `end`, where its words say one thing each. No such request has more words
+// after its verb than two lists of 80 numbers and the `/` between them.
+fn reply_at(line: &[u8], room: u64, from: usize, end: usize, places: &mut [u64]) -> Reply
     requires { ⌜ (from ≤ end) × (end ≤ length (now line)) ⌝ }
 {
     let mut kinds = [0u8; 161];
     let mut values = [0u64; 161];
     match requests::words(line, end + 1, &mut kinds, &mut values) {
-        Rest::Words(n) => answer_words(&line[from..end], n, &kinds, &values, room, out, at),
-        Rest::Bad => replies::bad(out, at),
+        Rest::Words(n) => reply_words(&line[from..end], n, &kinds, &values, room, places),
+        Rest::Bad => Reply::Bad,
     }
 }
 
-fn answer(line: &[u8], out: &mut [u8], at: usize) -> usize {
+// The reply to a line with bytes, which are read into a buffer that holds those of every line. Calls are lent the first of `written`; a room was
+// asked for where the verb is not the first word.
+fn reply_bytes(
+    line: &[u8],
+    room: u64,
+    from: usize,
+    end: usize,
+    bytes: &mut [u8],
+    written: &mut [u8],
+    places: &mut [u64],
+) -> Reply
+    requires { ⌜ (from ≤ end) × (end ≤ length (now line)) ⌝ }
+{
+    let lent = lent_of(room, written.len());
+    let r = image_verbs::reply(
+        &line[from..end],
+        line,
+        end + 1,
+        bytes,
+        &mut written[0..lent],
+        places,
+    );
+    let Reply::Bad = r else {
+        return r;
+    };
+    lexical_verbs::converted(
+        &line[from..end],
+        line,
+        end + 1,
+        bytes,
+        &mut written[0..lent],
+        from > 0,
+    )
+}
+
+// The reply to a line with signed numbers, which are read into a table. Calls are lent the first of `entries`.
+fn reply_signed(
+    line: &[u8],
+    room: u64,
+    from: usize,
+    end: usize,
+    table: &mut [i64],
+    entries: &mut [i64],
+) -> Reply
+    requires { ⌜ (from ≤ end) × (end ≤ length (now line)) ⌝ }
+{
+    let lent = lent_of(room, entries.len());
+    derivative_verbs::reply(
+        &line[from..end],
+        line,
+        end + 1,
+        table,
+        &mut entries[0..lent],
+    )
+}
+
+// The answer to a line whose verb stands from place `from` up to `end`. No call writes more than 64 places.
+fn answer_at(
+    line: &[u8],
+    room: u64,
+    from: usize,
+    end: usize,
+    bytes: &mut [u8],
+    written: &mut [u8],
+    out: &mut [u8],
+    at: usize,
+) -> usize
+    requires { ⌜ (from ≤ end) × (end ≤ length (now line)) ⌝ }
+{
+    let mut places = [0u64; 80];
+    let mut table = [0i64; 80];
+    let mut entries = [0i64; 80];
+    let r = reply_at(line, room, from, end, &mut places);
+    let Reply::Bad = r else {
+        return replies::put(out, at, r, &places, written, &entries);
+    };
+    let r = reply_bytes(line, room, from, end, bytes, written, &mut places);
+    let Reply::Bad = r else {
+        return replies::put(out, at, r, &places, written, &entries);
+    };
+    let r = reply_signed(line, room, from, end, &mut table, &mut entries);
+    replies::put(out, at, r, &places, written, &entries)
+}
+
+fn answer(line: &[u8], bytes: &mut [u8], written: &mut [u8], out: &mut [u8], at: usize) -> usize {
     match requests::head(line) {
-        Begun::Verb(room, from, end) => answer_at(line, room, from, end, out, at),
+        Begun::Verb(room, from, end) => answer_at(line, room, from, end, bytes, written, out, at),
         Begun::Bad => replies::bad(out, at),
     }
 }
 
-// The answer to the line that is held. No answer takes more than 4,096 bytes.
-fn answer_held(line: &[u8], held: usize, out: &mut [u8], at: usize) -> usize {
-    let at = streams::with_room(out, at, 4096);
+// The answer to the line that is held. No answer takes more than 262,145 bytes: the digits of as many bytes as a line has, and the newline.
+fn answer_held(
+    line: &[u8],
+    held: usize,
+    bytes: &mut [u8],
+    written: &mut [u8],
+    out: &mut [u8],
+    at: usize,
+) -> usize {
+    let at = streams::with_room(out, at, 262145);
     if held > line.len() {
         return replies::bad(out, at);
     }
-    answer(&line[0..held], out, at)
+    answer(&line[0..held], bytes, written, out, at)
 }
 
 // Holds one more byte of a line, where there is room for it. There is room for one byte more than a request has, so a line that is cut
@@ -108,7 +184,14 @@ fn hold(line: &mut [u8], held: usize, b: u8) -> usize {
 }
 
 // Answers the lines that end in a block, and holds what stands after the last of them: answers how many bytes that are.
-fn answer_block(block: &[u8], line: &mut [u8], before: usize, out: &mut [u8]) -> usize {
+fn answer_block(
+    block: &[u8],
+    line: &mut [u8],
+    before: usize,
+    bytes: &mut [u8],
+    written: &mut [u8],
+    out: &mut [u8],
+) -> usize {
     let mut held = before;
     let mut at = 0;
     let mut i = 0;
@@ -116,7 +199,7 @@ fn answer_block(block: &[u8], line: &mut [u8], before: usize, out: &mut [u8]) ->
         let b = block[i];
         i += 1;
         if b == b'\n' {
-            at = answer_held(line, held, out, at);
+            at = answer_held(line, held, bytes, written, out, at);
             held = 0;
         } else {
             held = hold(line, held, b);
@@ -127,32 +210,41 @@ fn answer_block(block: &[u8], line: &mut [u8], before: usize, out: &mut [u8]) ->
 }
 
 // A last line without a newline is a line.
-fn answer_last(line: &[u8], held: usize, out: &mut [u8]) {
+fn answer_last(line: &[u8], held: usize, bytes: &mut [u8], written: &mut [u8], out: &mut [u8]) {
     if held > 0 {
-        let at = answer_held(line, held, out, 0);
+        let at = answer_held(line, held, bytes, written, out, 0);
         streams::flush(out, at);
     }
 }
 
 // Answers the input block by block. Nothing says that an input ends, so the blocks are counted down from a number that no run uses up.
-fn answer_input(block: &mut [u8], line: &mut [u8], out: &mut [u8]) {
+fn answer_input(
+    block: &mut [u8],
+    line: &mut [u8],
+    bytes: &mut [u8],
+    written: &mut [u8],
+    out: &mut [u8],
+) {
     let mut held = 0;
     let mut turns = u64::MAX;
     while turns > 0 {
         let n = streams::read_some(block);
         if n == 0 {
-            answer_last(line, held, out);
+            answer_last(line, held, bytes, written, out);
             return;
         }
-        held = answer_block(&block[0..n], line, held, out);
+        held = answer_block(&block[0..n], line, held, bytes, written, out);
         turns -= 1;
     }
 }
 
-// Answers standard input on standard output.
+// Answers standard input on standard output. A line has 262,144 bytes at most, so its bytes are 131,072 at most, and so are those of an answer.
+// The buffers take 917,505 bytes of the stack.
 pub fn run() {
     let mut block = io::large_buffer();
-    let mut line = [0u8; 4097];
-    let mut out = io::large_buffer();
-    answer_input(&mut block, &mut line, &mut out);
+    let mut line = [0u8; 262145];
+    let mut bytes = [0u8; 131072];
+    let mut written = [0u8; 131072];
+    let mut out = [0u8; 327680];
+    answer_input(&mut block, &mut line, &mut bytes, &mut written, &mut out);
 }

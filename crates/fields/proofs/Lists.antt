@@ -57,10 +57,11 @@ module _ (texts ahead : List (List ℕ)) (table₀ table : List ℤ) (n : ℕ) (
       only : (zs : List ℤ) → (ys : List ℤ) × (zs ≡ o .numbers ++ ys) × AllSigned ahead ys → (ys : List ℤ) × (zs ≡ (o .numbers ++ (z ∷ [])) ++ ys) × AllSigned ts ys
       only zs p =
           let q = first-signed t ts (p .0) (subst (λ (l : List (List ℕ)). AllSigned l (p .0)) e (p .2)) in
-          let same : q .0 ≡ z = one-signed t (q .0) z (q .3 .0) (s .0) in
-          (q .1,
-           p .1 ∙ ap (λ (l : List ℤ). o .numbers ++ l) (q .2 ∙ ap (λ (y : ℤ). y ∷ q .1) same) ∙ sym (append-assoc (o .numbers) (z ∷ []) (q .1)),
-           q .4)
+          let same : q .0 ≡ z = one-signed t (q .0) z (q .3 .0) (s .0) in (
+            q .1,
+            p .1 ∙ ap (λ (l : List ℤ). o .numbers ++ l) (q .2 ∙ ap (λ (y : ℤ). y ∷ q .1) same) ∙ sym (append-assoc (o .numbers) (z ∷ []) (q .1)),
+            q .4,
+          )
 
   -- what stands in the table is read back from the bits of the number
   pub listed-kept : (t : List ℕ) (ts : List (List ℕ)) (z y : ℤ) → y ≡ z → ahead ≡ t ∷ ts → n < length table → SignedNumeral t z × InRange z → Listed texts ts table₀ (set table n y) (n + 1)

@@ -29,6 +29,11 @@ pub enum Reply {
     Truth(bool),
     // how many of the lent places a call has written
     Places(Answer),
+    // the same of lent bytes, and of lent signed numbers
+    Bytes(Answer),
+    Entries(Answer),
+    // an image in pieces of which nothing is told yet
+    Open,
 }
 
 pub fn bad(out: &mut [u8], at: usize) -> usize {
@@ -218,8 +223,64 @@ fn places(out: &mut [u8], at: usize, a: Answer, lent: &[u64]) -> usize {
     }
 }
 
-// Puts a reply. The places are those that calls write to.
-pub fn put(out: &mut [u8], at: usize, r: Reply, lent: &[u64]) -> usize {
+// The bytes that a call has written of those that it was lent, or its refusal.
+fn bytes(out: &mut [u8], at: usize, a: Answer, lent: &[u8]) -> usize {
+    match a {
+        Answer::Is(n) => {
+            let k = n as usize;
+            if k > lent.len() {
+                return bad(out, at);
+            }
+            let at = spelling::put_bytes(out, at, &lent[0..k]);
+            text::put_byte(out, at, b'\n')
+        }
+        Answer::Refused(e) => refusal(out, at, e),
+    }
+}
+
+// The i-th signed number of a list, after a space where it is not the first.
+fn signed_item(out: &mut [u8], at: usize, i: usize, z: i64) -> usize {
+    if i == 0 {
+        return spelling::put_signed(out, at, z);
+    }
+    let at = text::put_byte(out, at, b' ');
+    spelling::put_signed(out, at, z)
+}
+
+// Signed numbers, with a space between two of them.
+fn signed_numbers(out: &mut [u8], at: usize, list: &[i64]) -> usize {
+    let mut to = at;
+    let mut i = 0;
+    while i < list.len() {
+        to = signed_item(out, to, i, list[i]);
+        i += 1;
+    }
+    text::put_byte(out, to, b'\n')
+}
+
+// The signed numbers that a call has written of the places that it was lent, or its refusal.
+fn entries(out: &mut [u8], at: usize, a: Answer, lent: &[i64]) -> usize {
+    match a {
+        Answer::Is(n) => {
+            let k = n as usize;
+            if k > lent.len() {
+                return bad(out, at);
+            }
+            signed_numbers(out, at, &lent[0..k])
+        }
+        Answer::Refused(e) => refusal(out, at, e),
+    }
+}
+
+// Puts a reply. The places, the bytes and the signed numbers are those that calls write to.
+pub fn put(
+    out: &mut [u8],
+    at: usize,
+    r: Reply,
+    lent: &[u64],
+    written: &[u8],
+    table: &[i64],
+) -> usize {
     match r {
         Reply::Bad => bad(out, at),
         Reply::Number(a) => answer(out, at, a),
@@ -232,5 +293,8 @@ pub fn put(out: &mut [u8], at: usize, r: Reply, lent: &[u64]) -> usize {
         Reply::DigitDeleted(a) => digit_deleted(out, at, a),
         Reply::Truth(a) => truth(out, at, a),
         Reply::Places(a) => places(out, at, a, lent),
+        Reply::Bytes(a) => bytes(out, at, a, written),
+        Reply::Entries(a) => entries(out, at, a, table),
+        Reply::Open => text::put(out, at, b"open\n"),
     }
 }

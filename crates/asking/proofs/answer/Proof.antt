@@ -13,8 +13,8 @@ enum-known-room c = search needs
 
 answer-at-requires : tie.Need-answer-at-requires
 answer-at-requires c κs =
-    let at-head = c .before .before .before .before in
-    let verb = subst (Begins _) (c .before .before .room .given .1) (at-head .head .ensures) in
+    let at-head = c .before .before .before .before .before .before in
+    let verb = subst (Begins _) (c .before .before .before .before .room .given .1) (at-head .head .ensures) in
     (verb .ordered, verb .within)
 
 enum-told : tie.Need-enum-told
@@ -26,11 +26,17 @@ bad-requires c κs = search needs
 same-length : tie.Need-same-length
 same-length c = search needs
 
+same-length-2 : tie.Need-same-length-2
+same-length-2 c = search needs
+
+same-length-3 : tie.Need-same-length-3
+same-length-3 c = search needs
+
 returns : tie.Need-returns
 returns c = search needs
 
-same-length-2 : tie.Need-same-length-2
-same-length-2 c = search needs
+same-length-4 : tie.Need-same-length-4
+same-length-4 c = search needs
 
 returns-2 : tie.Need-returns-2
 returns-2 c = search needs
@@ -45,6 +51,8 @@ answer-spec =
     enum-told
     bad-requires
     same-length
-    returns
     same-length-2
+    same-length-3
+    returns
+    same-length-4
     returns-2)

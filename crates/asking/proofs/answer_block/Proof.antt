@@ -7,10 +7,11 @@ use Rattle.asking.proofs.answer_block.Statement.{statement}
 use Rattle.asking.proofs.answer_block.Tie as tie
 
 abbrev Inv-loop : tie.InvT-loop
-Inv-loop block line₀ before out₀ held₀ at₀ i₀ line out held at i = (i ≤ length block) × (length line ≡ length line₀) × (length out ≡ length out₀)
+Inv-loop block line₀ before bytes₀ written₀ out₀ held₀ at₀ i₀ line bytes written out held at i =
+    (i ≤ length block) × (length line ≡ length line₀) × (length bytes ≡ length bytes₀) × (length written ≡ length written₀) × (length out ≡ length out₀)
 
 abbrev μ-loop : tie.MeasureT-loop
-μ-loop block line₀ before out₀ held₀ at₀ i₀ line out held at i = length block - i
+μ-loop block line₀ before bytes₀ written₀ out₀ held₀ at₀ i₀ line bytes written out held at i = length block - i
 
 loop-holds : tie.Need-loop-holds Inv-loop μ-loop
 loop-holds c = search needs
@@ -48,6 +49,12 @@ same-length c = search needs
 same-length-2 : tie.Need-same-length-2 Inv-loop μ-loop
 same-length-2 c = search needs
 
+same-length-3 : tie.Need-same-length-3 Inv-loop μ-loop
+same-length-3 c = search needs
+
+same-length-4 : tie.Need-same-length-4 Inv-loop μ-loop
+same-length-4 c = search needs
+
 returns : tie.Need-returns Inv-loop μ-loop
 returns c = search needs
 
@@ -69,4 +76,6 @@ answer-block-spec =
     flush-requires
     same-length
     same-length-2
+    same-length-3
+    same-length-4
     returns)

@@ -6,10 +6,11 @@ use Rattle.asking.proofs.answer_input.Statement.{statement}
 use Rattle.asking.proofs.answer_input.Tie as tie
 
 abbrev Inv-loop : tie.InvT-loop
-Inv-loop block₀ line₀ out₀ held₀ turns₀ block line out held turns = (length block ≡ length block₀) × (length line ≡ length line₀) × (length out ≡ length out₀)
+Inv-loop block₀ line₀ bytes₀ written₀ out₀ held₀ turns₀ block line bytes written out held turns =
+    (length block ≡ length block₀) × (length line ≡ length line₀) × (length bytes ≡ length bytes₀) × (length written ≡ length written₀) × (length out ≡ length out₀)
 
 abbrev μ-loop : tie.MeasureT-loop
-μ-loop block₀ line₀ out₀ held₀ turns₀ block line out held turns = turns
+μ-loop block₀ line₀ bytes₀ written₀ out₀ held₀ turns₀ block line bytes written out held turns = turns
 
 loop-holds : tie.Need-loop-holds Inv-loop μ-loop
 loop-holds c = search needs
@@ -28,6 +29,12 @@ same-length-2 c = search needs
 
 same-length-3 : tie.Need-same-length-3 Inv-loop μ-loop
 same-length-3 c = search needs
+
+same-length-4 : tie.Need-same-length-4 Inv-loop μ-loop
+same-length-4 c = search needs
+
+same-length-5 : tie.Need-same-length-5 Inv-loop μ-loop
+same-length-5 c = search needs
 
 returns : tie.Need-returns Inv-loop μ-loop
 returns c = search needs
@@ -53,14 +60,20 @@ loop-less c = search needs
 loop-again : tie.Need-loop-again Inv-loop μ-loop
 loop-again c = search needs
 
-same-length-4 : tie.Need-same-length-4 Inv-loop μ-loop
-same-length-4 c = search needs
-
-same-length-5 : tie.Need-same-length-5 Inv-loop μ-loop
-same-length-5 c = search needs
-
 same-length-6 : tie.Need-same-length-6 Inv-loop μ-loop
 same-length-6 c = search needs
+
+same-length-7 : tie.Need-same-length-7 Inv-loop μ-loop
+same-length-7 c = search needs
+
+same-length-8 : tie.Need-same-length-8 Inv-loop μ-loop
+same-length-8 c = search needs
+
+same-length-9 : tie.Need-same-length-9 Inv-loop μ-loop
+same-length-9 c = search needs
+
+same-length-10 : tie.Need-same-length-10 Inv-loop μ-loop
+same-length-10 c = search needs
 
 returns-2 : tie.Need-returns-2 Inv-loop μ-loop
 returns-2 c = search needs
@@ -77,6 +90,8 @@ answer-input-spec =
     same-length
     same-length-2
     same-length-3
+    same-length-4
+    same-length-5
     returns
     sub-answer-block
     part-answer-block-start
@@ -85,7 +100,9 @@ answer-input-spec =
     sub-turns
     loop-less
     loop-again
-    same-length-4
-    same-length-5
     same-length-6
+    same-length-7
+    same-length-8
+    same-length-9
+    same-length-10
     returns-2)
