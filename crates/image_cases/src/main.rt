@@ -17,8 +17,8 @@ fn check_word(word: &[u8]) {
 }
 
 // Puts a byte of a description at its place, and the end of a line for `|`.
-fn put_at(lines: &mut [u8; 4096], i: usize, b: u8) {
-    if i >= 4096 {
+fn put_at(lines: &mut [u8], i: usize, b: u8) {
+    if i >= lines.len() {
         return;
     }
     if b == b'|' {
@@ -29,7 +29,7 @@ fn put_at(lines: &mut [u8; 4096], i: usize, b: u8) {
 }
 
 // A description, with the end of a line where `|` stands.
-fn broken(words: &[u8], lines: &mut [u8; 4096]) {
+fn broken(words: &[u8], lines: &mut [u8]) {
     let mut i = 0;
     while i < words.len() {
         put_at(lines, i, words[i]);

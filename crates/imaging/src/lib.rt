@@ -342,9 +342,12 @@ fn family(i: usize) -> Named {
 }
 
 // The i-th symbol of a term, which is argument 3 + i: whether it is a number.
-fn take_symbol(word: &mut [u64; 64], i: usize) -> bool
+fn take_symbol(word: &mut [u64], i: usize) -> bool
     requires { ⌜ i < 64 ⌝ }
 {
+    if i >= word.len() {
+        return false;
+    }
     match number(3 + i) {
         Number::Is(s) => {
             word[i] = s;
@@ -355,7 +358,7 @@ fn take_symbol(word: &mut [u64; 64], i: usize) -> bool
 }
 
 // The symbols of a term, of which there are n: whether all are numbers.
-fn symbols(word: &mut [u64; 64], n: usize) -> bool
+fn symbols(word: &mut [u64], n: usize) -> bool
     requires { ⌜ n ≤ 64 ⌝ }
 {
     let mut i = 0;

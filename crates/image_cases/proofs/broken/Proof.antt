@@ -1,4 +1,5 @@
 -- `image_cases::broken` is safe and ends. The measure is what is left of the description. Assumes nothing.
+use mathlib.Core.Path.{_≡_}
 use Prim.Native.Nat.{_-_, _≤_}
 use lib.ListN.{length}
 use borrow.Author.Needs.{needs}
@@ -6,7 +7,7 @@ use Rattle.image_cases.proofs.broken.Statement.{statement}
 use Rattle.image_cases.proofs.broken.Tie as tie
 
 abbrev Inv-loop : tie.InvT-loop
-Inv-loop words lines₀ i₀ lines i = i ≤ length words
+Inv-loop words lines₀ i₀ lines i = (i ≤ length words) × (length lines ≡ length lines₀)
 
 abbrev μ-loop : tie.MeasureT-loop
 μ-loop words lines₀ i₀ lines i = length words - i
@@ -29,6 +30,9 @@ loop-less c = search needs
 loop-again : tie.Need-loop-again Inv-loop μ-loop
 loop-again c = search needs
 
+same-length : tie.Need-same-length Inv-loop μ-loop
+same-length c = search needs
+
 returns : tie.Need-returns Inv-loop μ-loop
 returns c = search needs
 
@@ -44,4 +48,5 @@ broken-spec =
     add-i
     loop-less
     loop-again
+    same-length
     returns)
