@@ -418,7 +418,7 @@ fn derivatives() {
 
 #[test]
 fn old_tables() {
-    let (forbidden, allowed) = (Repetition::Forbidden, Repetition::Allowed);
+    let (forbidden, allowed) = (Forbidden, Allowed);
     // widening the alphabet renumbers
     assert_eq!(allowed.lexicographic_rank(2, &[1, 1]), Ok(2));
     assert_eq!(allowed.lexicographic_rank(3, &[1, 1]), Ok(3));
