@@ -1,7 +1,7 @@
 #!/usr/bin/env python3
 """Requests of `ask` about images of coefficient tables, one to a line, for a comparison with the model:
 
-    images.py all               every truncation, every change of one byte at every byte, and every cut into two and three pieces, of several images
+    images.py all               of several images every truncation, every value of each byte of the contents list, every cut in two, and every cut in three up to byte 60
     images.py drawn N [SEED]    N requests about images that are good, damaged, cut or made up
 
     tools/images.py drawn 100000 | tee target/requests | ./ask >target/answers
