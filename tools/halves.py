@@ -1,6 +1,6 @@
 #!/usr/bin/env python3
 """Writes crates/halves_low and crates/halves_high: the columns 2 to 16 and 17 to 32 of Pascal's triangle once more, in two halves each; and
-crates/descent: links for each of the columns, which find a number by halving.
+crates/descent_16, descent_32, descent_48 and descent: links for each of the columns, which find a number by halving.
 
 Run it at the repository's root: python3 tools/halves.py. Run again, it changes nothing; nor does `rt fmt` after it.
 """
@@ -60,8 +60,17 @@ CUTS = (64, 48, 32, 16, 8, 0)
 STARTS = (8, 16, 64)
 
 
+# The crate of the links that begin at a cut.
+HOME = {8: "descent_16", 16: "descent_16", 32: "descent_32", 48: "descent_48", 64: "descent"}
+
+
 def columns(k):
     return "halves_low" if k <= 16 else "halves_high"
+
+
+def from_crate(home, cut, k):
+    """The link for k numbers below the cut, as the crate `home` names it."""
+    return f"below_{cut}_{k}" if HOME[cut] == home else f"{HOME[cut]}::below_{cut}_{k}"
 
 
 def window(upto, cut, k):
@@ -90,7 +99,7 @@ def link(upto, cut, k):
     """The highest of k numbers below upto, and then the others."""
     lines = []
     if comb(cut, k) != 0:
-        lines = [f"if r < {comb(cut, k)} {{", f"    return below_{cut}_{k}(r, below({cut}, {comb(cut, k)}, {k}, {upto}, r, a));", "}"]
+        lines = [f"if r < {comb(cut, k)} {{", f"    return {from_crate(HOME[upto], cut, k)}(r, below({cut}, {comb(cut, k)}, {k}, {upto}, r, a));", "}"]
     b, n = window(upto, cut, k)
     held = f"{columns(k)}::{'upper' if 32 <= b else 'lower'}_{k}"
     lines += [f"let j = rows({b}, {n}, {comb(b, k)}, {k}, {upto}, r, a);"]
@@ -104,11 +113,12 @@ def link(upto, cut, k):
         f"let x = with({b}, j, t, c, {k}, {upto}, r, a);",
         f"{onward}r - c, x)",
     ]
-    return function(f"fn below_{upto}_{k}(r: u64, a: u64)", f"Sought 64 {k} {upto} r a", f"λ x. ⌜ x ≡ a + value {k} r ⌝", lines)
+    visible = "fn" if HOME[upto] == "descent" else "pub fn"
+    return function(f"{visible} below_{upto}_{k}(r: u64, a: u64)", f"Sought 64 {k} {upto} r a", f"λ x. ⌜ x ≡ a + value {k} r ⌝", lines)
 
 
 def begins(k, upto):
-    call = f"below_{upto}_{k}(" if 1 < k else f"last({upto}, "
+    call = f"{from_crate('descent', upto, k)}(" if 1 < k else f"last({upto}, "
     return f"ended({call}r, begun({upto}, {k}, k, s, r)), {k}, k, r)"
 
 
@@ -139,31 +149,38 @@ def entry():
     return function("pub fn set(k: u64, s: u64, r: u64)", f"(k ≤ {LAST}) × (s ≤ 64) × (r < entry s k)", "λ x. ⌜ x ≡ value k r ⌝", lines)
 
 
-def descent():
+USED = {
+    "descent_16": ("below", "half", "last", "middle", "rows", "with"),
+    "descent_32": ("below", "half", "last", "middle", "rows", "with"),
+    "descent_48": ("below", "half", "last", "middle", "rows", "with"),
+    "descent": ("begun", "below", "empty", "ended", "half", "last", "middle", "rows", "with"),
+}
+
+
+def descent(name):
+    cuts = [(upto, cut) for upto, cut in reversed(list(zip(CUTS, CUTS[1:]))) if HOME[upto] == name]
+    which = " and ".join(str(upto) for upto, _ in cuts)
+    others = {"descent_16": "", "descent": "; those of the lower cuts are in `descent_48`, `descent_32` and `descent_16`"}.get(name, "; those of the lower cuts are in crates of their own")
     text = f"""// The sets of 2 to {LAST} numbers by their rank, each number found by halving its column (document 01, "Terms and their order"). Made by tools/halves.py.
 // The rows are cut at 48, 32, 16 and 8. The link `below_s_k` has k numbers of rank r to find, all below the cut s, and a holds those that are found. One
 // comparison says whether they are below the next cut too, and then that cut's link takes over, for good. Otherwise the highest is one of the rows between
 // the two cuts, at most 16; each comparison halves these, with no branch, and what is left goes to the link for one number fewer.
+// Here are the links below {which}{others}.
 ghost use mathlib.Core.Path.{{_≡_}};
-ghost use Prim.Native.Nat.{{_+_, _<_, _≤_}};
-ghost use Rattle.pascal.specs.Row.{{entry}};
-ghost use Rattle.halving.specs.Search.{{value, Sought, Among}};
-use halving::begun;
-use halving::below;
-use halving::empty;
-use halving::ended;
-use halving::half;
-use halving::last;
-use halving::middle;
-use halving::rows;
-use halving::with;
+ghost use Prim.Native.Nat.{{_+_{", _<_, _≤_" if name == "descent" else ""}}};
 """
-    for upto, cut in reversed(list(zip(CUTS, CUTS[1:]))):
+    if name == "descent":
+        text += "ghost use Rattle.pascal.specs.Row.{entry};\n"
+    text += "ghost use Rattle.halving.specs.Search.{value, Sought};\n"
+    text += "".join(f"use halving::{used};\n" for used in USED[name])
+    for upto, cut in cuts:
         for k in range(2, min(upto, LAST) + 1):
             text += link(upto, cut, k)
-    text += "\n// The set of k numbers below s that has the rank r." + entry()
-    with open("crates/descent/src/lib.rt", "w", encoding="utf-8") as f:
+    if name == "descent":
+        text += "\n// The set of k numbers below s that has the rank r." + entry()
+    with open(f"crates/{name}/src/lib.rt", "w", encoding="utf-8") as f:
         f.write(text)
 
 
-descent()
+for name in USED:
+    descent(name)

@@ -2,10 +2,11 @@
 // The rows are cut at 48, 32, 16 and 8. The link `below_s_k` has k numbers of rank r to find, all below the cut s, and a holds those that are found. One
 // comparison says whether they are below the next cut too, and then that cut's link takes over, for good. Otherwise the highest is one of the rows between
 // the two cuts, at most 16; each comparison halves these, with no branch, and what is left goes to the link for one number fewer.
+// Here are the links below 64; those of the lower cuts are in `descent_48`, `descent_32` and `descent_16`.
 ghost use mathlib.Core.Path.{_≡_};
 ghost use Prim.Native.Nat.{_+_, _<_, _≤_};
 ghost use Rattle.pascal.specs.Row.{entry};
-ghost use Rattle.halving.specs.Search.{value, Sought, Among};
+ghost use Rattle.halving.specs.Search.{value, Sought};
 use halving::begun;
 use halving::below;
 use halving::empty;
@@ -16,1665 +17,12 @@ use halving::middle;
 use halving::rows;
 use halving::with;
 
-fn below_8_2(r: u64, a: u64) -> u64
-    requires { ⌜ Sought 64 2 8 r a ⌝ }
-    ensures { λ x. ⌜ x ≡ a + value 2 r ⌝ }
-{
-    let j = rows(0, 8, 0, 2, 8, r, a);
-    let t = middle(0, 4, j, 2, r);
-    let j = half(0, 4, j, t, halves_low::lower_2(t), 2, r);
-    let t = middle(0, 2, j, 2, r);
-    let j = half(0, 2, j, t, halves_low::lower_2(t), 2, r);
-    let t = middle(0, 1, j, 2, r);
-    let j = half(0, 1, j, t, halves_low::lower_2(t), 2, r);
-    let t = 0 + j;
-    let c = halves_low::lower_2(t);
-    let x = with(0, j, t, c, 2, 8, r, a);
-    last(8, r - c, x)
-}
-
-fn below_8_3(r: u64, a: u64) -> u64
-    requires { ⌜ Sought 64 3 8 r a ⌝ }
-    ensures { λ x. ⌜ x ≡ a + value 3 r ⌝ }
-{
-    let j = rows(0, 8, 0, 3, 8, r, a);
-    let t = middle(0, 4, j, 3, r);
-    let j = half(0, 4, j, t, halves_low::lower_3(t), 3, r);
-    let t = middle(0, 2, j, 3, r);
-    let j = half(0, 2, j, t, halves_low::lower_3(t), 3, r);
-    let t = middle(0, 1, j, 3, r);
-    let j = half(0, 1, j, t, halves_low::lower_3(t), 3, r);
-    let t = 0 + j;
-    let c = halves_low::lower_3(t);
-    let x = with(0, j, t, c, 3, 8, r, a);
-    below_8_2(r - c, x)
-}
-
-fn below_8_4(r: u64, a: u64) -> u64
-    requires { ⌜ Sought 64 4 8 r a ⌝ }
-    ensures { λ x. ⌜ x ≡ a + value 4 r ⌝ }
-{
-    let j = rows(0, 8, 0, 4, 8, r, a);
-    let t = middle(0, 4, j, 4, r);
-    let j = half(0, 4, j, t, halves_low::lower_4(t), 4, r);
-    let t = middle(0, 2, j, 4, r);
-    let j = half(0, 2, j, t, halves_low::lower_4(t), 4, r);
-    let t = middle(0, 1, j, 4, r);
-    let j = half(0, 1, j, t, halves_low::lower_4(t), 4, r);
-    let t = 0 + j;
-    let c = halves_low::lower_4(t);
-    let x = with(0, j, t, c, 4, 8, r, a);
-    below_8_3(r - c, x)
-}
-
-fn below_8_5(r: u64, a: u64) -> u64
-    requires { ⌜ Sought 64 5 8 r a ⌝ }
-    ensures { λ x. ⌜ x ≡ a + value 5 r ⌝ }
-{
-    let j = rows(4, 4, 0, 5, 8, r, a);
-    let t = middle(4, 2, j, 5, r);
-    let j = half(4, 2, j, t, halves_low::lower_5(t), 5, r);
-    let t = middle(4, 1, j, 5, r);
-    let j = half(4, 1, j, t, halves_low::lower_5(t), 5, r);
-    let t = 4 + j;
-    let c = halves_low::lower_5(t);
-    let x = with(4, j, t, c, 5, 8, r, a);
-    below_8_4(r - c, x)
-}
-
-fn below_8_6(r: u64, a: u64) -> u64
-    requires { ⌜ Sought 64 6 8 r a ⌝ }
-    ensures { λ x. ⌜ x ≡ a + value 6 r ⌝ }
-{
-    let j = rows(4, 4, 0, 6, 8, r, a);
-    let t = middle(4, 2, j, 6, r);
-    let j = half(4, 2, j, t, halves_low::lower_6(t), 6, r);
-    let t = middle(4, 1, j, 6, r);
-    let j = half(4, 1, j, t, halves_low::lower_6(t), 6, r);
-    let t = 4 + j;
-    let c = halves_low::lower_6(t);
-    let x = with(4, j, t, c, 6, 8, r, a);
-    below_8_5(r - c, x)
-}
-
-fn below_8_7(r: u64, a: u64) -> u64
-    requires { ⌜ Sought 64 7 8 r a ⌝ }
-    ensures { λ x. ⌜ x ≡ a + value 7 r ⌝ }
-{
-    let j = rows(6, 2, 0, 7, 8, r, a);
-    let t = middle(6, 1, j, 7, r);
-    let j = half(6, 1, j, t, halves_low::lower_7(t), 7, r);
-    let t = 6 + j;
-    let c = halves_low::lower_7(t);
-    let x = with(6, j, t, c, 7, 8, r, a);
-    below_8_6(r - c, x)
-}
-
-fn below_8_8(r: u64, a: u64) -> u64
-    requires { ⌜ Sought 64 8 8 r a ⌝ }
-    ensures { λ x. ⌜ x ≡ a + value 8 r ⌝ }
-{
-    let j = rows(7, 1, 0, 8, 8, r, a);
-    let t = 7 + j;
-    let c = halves_low::lower_8(t);
-    let x = with(7, j, t, c, 8, 8, r, a);
-    below_8_7(r - c, x)
-}
-
-fn below_16_2(r: u64, a: u64) -> u64
-    requires { ⌜ Sought 64 2 16 r a ⌝ }
-    ensures { λ x. ⌜ x ≡ a + value 2 r ⌝ }
-{
-    if r < 28 {
-        return below_8_2(r, below(8, 28, 2, 16, r, a));
-    }
-    let j = rows(8, 8, 28, 2, 16, r, a);
-    let t = middle(8, 4, j, 2, r);
-    let j = half(8, 4, j, t, halves_low::lower_2(t), 2, r);
-    let t = middle(8, 2, j, 2, r);
-    let j = half(8, 2, j, t, halves_low::lower_2(t), 2, r);
-    let t = middle(8, 1, j, 2, r);
-    let j = half(8, 1, j, t, halves_low::lower_2(t), 2, r);
-    let t = 8 + j;
-    let c = halves_low::lower_2(t);
-    let x = with(8, j, t, c, 2, 16, r, a);
-    last(16, r - c, x)
-}
-
-fn below_16_3(r: u64, a: u64) -> u64
-    requires { ⌜ Sought 64 3 16 r a ⌝ }
-    ensures { λ x. ⌜ x ≡ a + value 3 r ⌝ }
-{
-    if r < 56 {
-        return below_8_3(r, below(8, 56, 3, 16, r, a));
-    }
-    let j = rows(8, 8, 56, 3, 16, r, a);
-    let t = middle(8, 4, j, 3, r);
-    let j = half(8, 4, j, t, halves_low::lower_3(t), 3, r);
-    let t = middle(8, 2, j, 3, r);
-    let j = half(8, 2, j, t, halves_low::lower_3(t), 3, r);
-    let t = middle(8, 1, j, 3, r);
-    let j = half(8, 1, j, t, halves_low::lower_3(t), 3, r);
-    let t = 8 + j;
-    let c = halves_low::lower_3(t);
-    let x = with(8, j, t, c, 3, 16, r, a);
-    below_16_2(r - c, x)
-}
-
-fn below_16_4(r: u64, a: u64) -> u64
-    requires { ⌜ Sought 64 4 16 r a ⌝ }
-    ensures { λ x. ⌜ x ≡ a + value 4 r ⌝ }
-{
-    if r < 70 {
-        return below_8_4(r, below(8, 70, 4, 16, r, a));
-    }
-    let j = rows(8, 8, 70, 4, 16, r, a);
-    let t = middle(8, 4, j, 4, r);
-    let j = half(8, 4, j, t, halves_low::lower_4(t), 4, r);
-    let t = middle(8, 2, j, 4, r);
-    let j = half(8, 2, j, t, halves_low::lower_4(t), 4, r);
-    let t = middle(8, 1, j, 4, r);
-    let j = half(8, 1, j, t, halves_low::lower_4(t), 4, r);
-    let t = 8 + j;
-    let c = halves_low::lower_4(t);
-    let x = with(8, j, t, c, 4, 16, r, a);
-    below_16_3(r - c, x)
-}
-
-fn below_16_5(r: u64, a: u64) -> u64
-    requires { ⌜ Sought 64 5 16 r a ⌝ }
-    ensures { λ x. ⌜ x ≡ a + value 5 r ⌝ }
-{
-    if r < 56 {
-        return below_8_5(r, below(8, 56, 5, 16, r, a));
-    }
-    let j = rows(8, 8, 56, 5, 16, r, a);
-    let t = middle(8, 4, j, 5, r);
-    let j = half(8, 4, j, t, halves_low::lower_5(t), 5, r);
-    let t = middle(8, 2, j, 5, r);
-    let j = half(8, 2, j, t, halves_low::lower_5(t), 5, r);
-    let t = middle(8, 1, j, 5, r);
-    let j = half(8, 1, j, t, halves_low::lower_5(t), 5, r);
-    let t = 8 + j;
-    let c = halves_low::lower_5(t);
-    let x = with(8, j, t, c, 5, 16, r, a);
-    below_16_4(r - c, x)
-}
-
-fn below_16_6(r: u64, a: u64) -> u64
-    requires { ⌜ Sought 64 6 16 r a ⌝ }
-    ensures { λ x. ⌜ x ≡ a + value 6 r ⌝ }
-{
-    if r < 28 {
-        return below_8_6(r, below(8, 28, 6, 16, r, a));
-    }
-    let j = rows(8, 8, 28, 6, 16, r, a);
-    let t = middle(8, 4, j, 6, r);
-    let j = half(8, 4, j, t, halves_low::lower_6(t), 6, r);
-    let t = middle(8, 2, j, 6, r);
-    let j = half(8, 2, j, t, halves_low::lower_6(t), 6, r);
-    let t = middle(8, 1, j, 6, r);
-    let j = half(8, 1, j, t, halves_low::lower_6(t), 6, r);
-    let t = 8 + j;
-    let c = halves_low::lower_6(t);
-    let x = with(8, j, t, c, 6, 16, r, a);
-    below_16_5(r - c, x)
-}
-
-fn below_16_7(r: u64, a: u64) -> u64
-    requires { ⌜ Sought 64 7 16 r a ⌝ }
-    ensures { λ x. ⌜ x ≡ a + value 7 r ⌝ }
-{
-    if r < 8 {
-        return below_8_7(r, below(8, 8, 7, 16, r, a));
-    }
-    let j = rows(8, 8, 8, 7, 16, r, a);
-    let t = middle(8, 4, j, 7, r);
-    let j = half(8, 4, j, t, halves_low::lower_7(t), 7, r);
-    let t = middle(8, 2, j, 7, r);
-    let j = half(8, 2, j, t, halves_low::lower_7(t), 7, r);
-    let t = middle(8, 1, j, 7, r);
-    let j = half(8, 1, j, t, halves_low::lower_7(t), 7, r);
-    let t = 8 + j;
-    let c = halves_low::lower_7(t);
-    let x = with(8, j, t, c, 7, 16, r, a);
-    below_16_6(r - c, x)
-}
-
-fn below_16_8(r: u64, a: u64) -> u64
-    requires { ⌜ Sought 64 8 16 r a ⌝ }
-    ensures { λ x. ⌜ x ≡ a + value 8 r ⌝ }
-{
-    if r < 1 {
-        return below_8_8(r, below(8, 1, 8, 16, r, a));
-    }
-    let j = rows(8, 8, 1, 8, 16, r, a);
-    let t = middle(8, 4, j, 8, r);
-    let j = half(8, 4, j, t, halves_low::lower_8(t), 8, r);
-    let t = middle(8, 2, j, 8, r);
-    let j = half(8, 2, j, t, halves_low::lower_8(t), 8, r);
-    let t = middle(8, 1, j, 8, r);
-    let j = half(8, 1, j, t, halves_low::lower_8(t), 8, r);
-    let t = 8 + j;
-    let c = halves_low::lower_8(t);
-    let x = with(8, j, t, c, 8, 16, r, a);
-    below_16_7(r - c, x)
-}
-
-fn below_16_9(r: u64, a: u64) -> u64
-    requires { ⌜ Sought 64 9 16 r a ⌝ }
-    ensures { λ x. ⌜ x ≡ a + value 9 r ⌝ }
-{
-    let j = rows(8, 8, 0, 9, 16, r, a);
-    let t = middle(8, 4, j, 9, r);
-    let j = half(8, 4, j, t, halves_low::lower_9(t), 9, r);
-    let t = middle(8, 2, j, 9, r);
-    let j = half(8, 2, j, t, halves_low::lower_9(t), 9, r);
-    let t = middle(8, 1, j, 9, r);
-    let j = half(8, 1, j, t, halves_low::lower_9(t), 9, r);
-    let t = 8 + j;
-    let c = halves_low::lower_9(t);
-    let x = with(8, j, t, c, 9, 16, r, a);
-    below_16_8(r - c, x)
-}
-
-fn below_16_10(r: u64, a: u64) -> u64
-    requires { ⌜ Sought 64 10 16 r a ⌝ }
-    ensures { λ x. ⌜ x ≡ a + value 10 r ⌝ }
-{
-    let j = rows(8, 8, 0, 10, 16, r, a);
-    let t = middle(8, 4, j, 10, r);
-    let j = half(8, 4, j, t, halves_low::lower_10(t), 10, r);
-    let t = middle(8, 2, j, 10, r);
-    let j = half(8, 2, j, t, halves_low::lower_10(t), 10, r);
-    let t = middle(8, 1, j, 10, r);
-    let j = half(8, 1, j, t, halves_low::lower_10(t), 10, r);
-    let t = 8 + j;
-    let c = halves_low::lower_10(t);
-    let x = with(8, j, t, c, 10, 16, r, a);
-    below_16_9(r - c, x)
-}
-
-fn below_16_11(r: u64, a: u64) -> u64
-    requires { ⌜ Sought 64 11 16 r a ⌝ }
-    ensures { λ x. ⌜ x ≡ a + value 11 r ⌝ }
-{
-    let j = rows(8, 8, 0, 11, 16, r, a);
-    let t = middle(8, 4, j, 11, r);
-    let j = half(8, 4, j, t, halves_low::lower_11(t), 11, r);
-    let t = middle(8, 2, j, 11, r);
-    let j = half(8, 2, j, t, halves_low::lower_11(t), 11, r);
-    let t = middle(8, 1, j, 11, r);
-    let j = half(8, 1, j, t, halves_low::lower_11(t), 11, r);
-    let t = 8 + j;
-    let c = halves_low::lower_11(t);
-    let x = with(8, j, t, c, 11, 16, r, a);
-    below_16_10(r - c, x)
-}
-
-fn below_16_12(r: u64, a: u64) -> u64
-    requires { ⌜ Sought 64 12 16 r a ⌝ }
-    ensures { λ x. ⌜ x ≡ a + value 12 r ⌝ }
-{
-    let j = rows(8, 8, 0, 12, 16, r, a);
-    let t = middle(8, 4, j, 12, r);
-    let j = half(8, 4, j, t, halves_low::lower_12(t), 12, r);
-    let t = middle(8, 2, j, 12, r);
-    let j = half(8, 2, j, t, halves_low::lower_12(t), 12, r);
-    let t = middle(8, 1, j, 12, r);
-    let j = half(8, 1, j, t, halves_low::lower_12(t), 12, r);
-    let t = 8 + j;
-    let c = halves_low::lower_12(t);
-    let x = with(8, j, t, c, 12, 16, r, a);
-    below_16_11(r - c, x)
-}
-
-fn below_16_13(r: u64, a: u64) -> u64
-    requires { ⌜ Sought 64 13 16 r a ⌝ }
-    ensures { λ x. ⌜ x ≡ a + value 13 r ⌝ }
-{
-    let j = rows(12, 4, 0, 13, 16, r, a);
-    let t = middle(12, 2, j, 13, r);
-    let j = half(12, 2, j, t, halves_low::lower_13(t), 13, r);
-    let t = middle(12, 1, j, 13, r);
-    let j = half(12, 1, j, t, halves_low::lower_13(t), 13, r);
-    let t = 12 + j;
-    let c = halves_low::lower_13(t);
-    let x = with(12, j, t, c, 13, 16, r, a);
-    below_16_12(r - c, x)
-}
-
-fn below_16_14(r: u64, a: u64) -> u64
-    requires { ⌜ Sought 64 14 16 r a ⌝ }
-    ensures { λ x. ⌜ x ≡ a + value 14 r ⌝ }
-{
-    let j = rows(12, 4, 0, 14, 16, r, a);
-    let t = middle(12, 2, j, 14, r);
-    let j = half(12, 2, j, t, halves_low::lower_14(t), 14, r);
-    let t = middle(12, 1, j, 14, r);
-    let j = half(12, 1, j, t, halves_low::lower_14(t), 14, r);
-    let t = 12 + j;
-    let c = halves_low::lower_14(t);
-    let x = with(12, j, t, c, 14, 16, r, a);
-    below_16_13(r - c, x)
-}
-
-fn below_16_15(r: u64, a: u64) -> u64
-    requires { ⌜ Sought 64 15 16 r a ⌝ }
-    ensures { λ x. ⌜ x ≡ a + value 15 r ⌝ }
-{
-    let j = rows(14, 2, 0, 15, 16, r, a);
-    let t = middle(14, 1, j, 15, r);
-    let j = half(14, 1, j, t, halves_low::lower_15(t), 15, r);
-    let t = 14 + j;
-    let c = halves_low::lower_15(t);
-    let x = with(14, j, t, c, 15, 16, r, a);
-    below_16_14(r - c, x)
-}
-
-fn below_16_16(r: u64, a: u64) -> u64
-    requires { ⌜ Sought 64 16 16 r a ⌝ }
-    ensures { λ x. ⌜ x ≡ a + value 16 r ⌝ }
-{
-    let j = rows(15, 1, 0, 16, 16, r, a);
-    let t = 15 + j;
-    let c = halves_low::lower_16(t);
-    let x = with(15, j, t, c, 16, 16, r, a);
-    below_16_15(r - c, x)
-}
-
-fn below_32_2(r: u64, a: u64) -> u64
-    requires { ⌜ Sought 64 2 32 r a ⌝ }
-    ensures { λ x. ⌜ x ≡ a + value 2 r ⌝ }
-{
-    if r < 120 {
-        return below_16_2(r, below(16, 120, 2, 32, r, a));
-    }
-    let j = rows(16, 16, 120, 2, 32, r, a);
-    let t = middle(16, 8, j, 2, r);
-    let j = half(16, 8, j, t, halves_low::lower_2(t), 2, r);
-    let t = middle(16, 4, j, 2, r);
-    let j = half(16, 4, j, t, halves_low::lower_2(t), 2, r);
-    let t = middle(16, 2, j, 2, r);
-    let j = half(16, 2, j, t, halves_low::lower_2(t), 2, r);
-    let t = middle(16, 1, j, 2, r);
-    let j = half(16, 1, j, t, halves_low::lower_2(t), 2, r);
-    let t = 16 + j;
-    let c = halves_low::lower_2(t);
-    let x = with(16, j, t, c, 2, 32, r, a);
-    last(32, r - c, x)
-}
-
-fn below_32_3(r: u64, a: u64) -> u64
-    requires { ⌜ Sought 64 3 32 r a ⌝ }
-    ensures { λ x. ⌜ x ≡ a + value 3 r ⌝ }
-{
-    if r < 560 {
-        return below_16_3(r, below(16, 560, 3, 32, r, a));
-    }
-    let j = rows(16, 16, 560, 3, 32, r, a);
-    let t = middle(16, 8, j, 3, r);
-    let j = half(16, 8, j, t, halves_low::lower_3(t), 3, r);
-    let t = middle(16, 4, j, 3, r);
-    let j = half(16, 4, j, t, halves_low::lower_3(t), 3, r);
-    let t = middle(16, 2, j, 3, r);
-    let j = half(16, 2, j, t, halves_low::lower_3(t), 3, r);
-    let t = middle(16, 1, j, 3, r);
-    let j = half(16, 1, j, t, halves_low::lower_3(t), 3, r);
-    let t = 16 + j;
-    let c = halves_low::lower_3(t);
-    let x = with(16, j, t, c, 3, 32, r, a);
-    below_32_2(r - c, x)
-}
-
-fn below_32_4(r: u64, a: u64) -> u64
-    requires { ⌜ Sought 64 4 32 r a ⌝ }
-    ensures { λ x. ⌜ x ≡ a + value 4 r ⌝ }
-{
-    if r < 1820 {
-        return below_16_4(r, below(16, 1820, 4, 32, r, a));
-    }
-    let j = rows(16, 16, 1820, 4, 32, r, a);
-    let t = middle(16, 8, j, 4, r);
-    let j = half(16, 8, j, t, halves_low::lower_4(t), 4, r);
-    let t = middle(16, 4, j, 4, r);
-    let j = half(16, 4, j, t, halves_low::lower_4(t), 4, r);
-    let t = middle(16, 2, j, 4, r);
-    let j = half(16, 2, j, t, halves_low::lower_4(t), 4, r);
-    let t = middle(16, 1, j, 4, r);
-    let j = half(16, 1, j, t, halves_low::lower_4(t), 4, r);
-    let t = 16 + j;
-    let c = halves_low::lower_4(t);
-    let x = with(16, j, t, c, 4, 32, r, a);
-    below_32_3(r - c, x)
-}
-
-fn below_32_5(r: u64, a: u64) -> u64
-    requires { ⌜ Sought 64 5 32 r a ⌝ }
-    ensures { λ x. ⌜ x ≡ a + value 5 r ⌝ }
-{
-    if r < 4368 {
-        return below_16_5(r, below(16, 4368, 5, 32, r, a));
-    }
-    let j = rows(16, 16, 4368, 5, 32, r, a);
-    let t = middle(16, 8, j, 5, r);
-    let j = half(16, 8, j, t, halves_low::lower_5(t), 5, r);
-    let t = middle(16, 4, j, 5, r);
-    let j = half(16, 4, j, t, halves_low::lower_5(t), 5, r);
-    let t = middle(16, 2, j, 5, r);
-    let j = half(16, 2, j, t, halves_low::lower_5(t), 5, r);
-    let t = middle(16, 1, j, 5, r);
-    let j = half(16, 1, j, t, halves_low::lower_5(t), 5, r);
-    let t = 16 + j;
-    let c = halves_low::lower_5(t);
-    let x = with(16, j, t, c, 5, 32, r, a);
-    below_32_4(r - c, x)
-}
-
-fn below_32_6(r: u64, a: u64) -> u64
-    requires { ⌜ Sought 64 6 32 r a ⌝ }
-    ensures { λ x. ⌜ x ≡ a + value 6 r ⌝ }
-{
-    if r < 8008 {
-        return below_16_6(r, below(16, 8008, 6, 32, r, a));
-    }
-    let j = rows(16, 16, 8008, 6, 32, r, a);
-    let t = middle(16, 8, j, 6, r);
-    let j = half(16, 8, j, t, halves_low::lower_6(t), 6, r);
-    let t = middle(16, 4, j, 6, r);
-    let j = half(16, 4, j, t, halves_low::lower_6(t), 6, r);
-    let t = middle(16, 2, j, 6, r);
-    let j = half(16, 2, j, t, halves_low::lower_6(t), 6, r);
-    let t = middle(16, 1, j, 6, r);
-    let j = half(16, 1, j, t, halves_low::lower_6(t), 6, r);
-    let t = 16 + j;
-    let c = halves_low::lower_6(t);
-    let x = with(16, j, t, c, 6, 32, r, a);
-    below_32_5(r - c, x)
-}
-
-fn below_32_7(r: u64, a: u64) -> u64
-    requires { ⌜ Sought 64 7 32 r a ⌝ }
-    ensures { λ x. ⌜ x ≡ a + value 7 r ⌝ }
-{
-    if r < 11440 {
-        return below_16_7(r, below(16, 11440, 7, 32, r, a));
-    }
-    let j = rows(16, 16, 11440, 7, 32, r, a);
-    let t = middle(16, 8, j, 7, r);
-    let j = half(16, 8, j, t, halves_low::lower_7(t), 7, r);
-    let t = middle(16, 4, j, 7, r);
-    let j = half(16, 4, j, t, halves_low::lower_7(t), 7, r);
-    let t = middle(16, 2, j, 7, r);
-    let j = half(16, 2, j, t, halves_low::lower_7(t), 7, r);
-    let t = middle(16, 1, j, 7, r);
-    let j = half(16, 1, j, t, halves_low::lower_7(t), 7, r);
-    let t = 16 + j;
-    let c = halves_low::lower_7(t);
-    let x = with(16, j, t, c, 7, 32, r, a);
-    below_32_6(r - c, x)
-}
-
-fn below_32_8(r: u64, a: u64) -> u64
-    requires { ⌜ Sought 64 8 32 r a ⌝ }
-    ensures { λ x. ⌜ x ≡ a + value 8 r ⌝ }
-{
-    if r < 12870 {
-        return below_16_8(r, below(16, 12870, 8, 32, r, a));
-    }
-    let j = rows(16, 16, 12870, 8, 32, r, a);
-    let t = middle(16, 8, j, 8, r);
-    let j = half(16, 8, j, t, halves_low::lower_8(t), 8, r);
-    let t = middle(16, 4, j, 8, r);
-    let j = half(16, 4, j, t, halves_low::lower_8(t), 8, r);
-    let t = middle(16, 2, j, 8, r);
-    let j = half(16, 2, j, t, halves_low::lower_8(t), 8, r);
-    let t = middle(16, 1, j, 8, r);
-    let j = half(16, 1, j, t, halves_low::lower_8(t), 8, r);
-    let t = 16 + j;
-    let c = halves_low::lower_8(t);
-    let x = with(16, j, t, c, 8, 32, r, a);
-    below_32_7(r - c, x)
-}
-
-fn below_32_9(r: u64, a: u64) -> u64
-    requires { ⌜ Sought 64 9 32 r a ⌝ }
-    ensures { λ x. ⌜ x ≡ a + value 9 r ⌝ }
-{
-    if r < 11440 {
-        return below_16_9(r, below(16, 11440, 9, 32, r, a));
-    }
-    let j = rows(16, 16, 11440, 9, 32, r, a);
-    let t = middle(16, 8, j, 9, r);
-    let j = half(16, 8, j, t, halves_low::lower_9(t), 9, r);
-    let t = middle(16, 4, j, 9, r);
-    let j = half(16, 4, j, t, halves_low::lower_9(t), 9, r);
-    let t = middle(16, 2, j, 9, r);
-    let j = half(16, 2, j, t, halves_low::lower_9(t), 9, r);
-    let t = middle(16, 1, j, 9, r);
-    let j = half(16, 1, j, t, halves_low::lower_9(t), 9, r);
-    let t = 16 + j;
-    let c = halves_low::lower_9(t);
-    let x = with(16, j, t, c, 9, 32, r, a);
-    below_32_8(r - c, x)
-}
-
-fn below_32_10(r: u64, a: u64) -> u64
-    requires { ⌜ Sought 64 10 32 r a ⌝ }
-    ensures { λ x. ⌜ x ≡ a + value 10 r ⌝ }
-{
-    if r < 8008 {
-        return below_16_10(r, below(16, 8008, 10, 32, r, a));
-    }
-    let j = rows(16, 16, 8008, 10, 32, r, a);
-    let t = middle(16, 8, j, 10, r);
-    let j = half(16, 8, j, t, halves_low::lower_10(t), 10, r);
-    let t = middle(16, 4, j, 10, r);
-    let j = half(16, 4, j, t, halves_low::lower_10(t), 10, r);
-    let t = middle(16, 2, j, 10, r);
-    let j = half(16, 2, j, t, halves_low::lower_10(t), 10, r);
-    let t = middle(16, 1, j, 10, r);
-    let j = half(16, 1, j, t, halves_low::lower_10(t), 10, r);
-    let t = 16 + j;
-    let c = halves_low::lower_10(t);
-    let x = with(16, j, t, c, 10, 32, r, a);
-    below_32_9(r - c, x)
-}
-
-fn below_32_11(r: u64, a: u64) -> u64
-    requires { ⌜ Sought 64 11 32 r a ⌝ }
-    ensures { λ x. ⌜ x ≡ a + value 11 r ⌝ }
-{
-    if r < 4368 {
-        return below_16_11(r, below(16, 4368, 11, 32, r, a));
-    }
-    let j = rows(16, 16, 4368, 11, 32, r, a);
-    let t = middle(16, 8, j, 11, r);
-    let j = half(16, 8, j, t, halves_low::lower_11(t), 11, r);
-    let t = middle(16, 4, j, 11, r);
-    let j = half(16, 4, j, t, halves_low::lower_11(t), 11, r);
-    let t = middle(16, 2, j, 11, r);
-    let j = half(16, 2, j, t, halves_low::lower_11(t), 11, r);
-    let t = middle(16, 1, j, 11, r);
-    let j = half(16, 1, j, t, halves_low::lower_11(t), 11, r);
-    let t = 16 + j;
-    let c = halves_low::lower_11(t);
-    let x = with(16, j, t, c, 11, 32, r, a);
-    below_32_10(r - c, x)
-}
-
-fn below_32_12(r: u64, a: u64) -> u64
-    requires { ⌜ Sought 64 12 32 r a ⌝ }
-    ensures { λ x. ⌜ x ≡ a + value 12 r ⌝ }
-{
-    if r < 1820 {
-        return below_16_12(r, below(16, 1820, 12, 32, r, a));
-    }
-    let j = rows(16, 16, 1820, 12, 32, r, a);
-    let t = middle(16, 8, j, 12, r);
-    let j = half(16, 8, j, t, halves_low::lower_12(t), 12, r);
-    let t = middle(16, 4, j, 12, r);
-    let j = half(16, 4, j, t, halves_low::lower_12(t), 12, r);
-    let t = middle(16, 2, j, 12, r);
-    let j = half(16, 2, j, t, halves_low::lower_12(t), 12, r);
-    let t = middle(16, 1, j, 12, r);
-    let j = half(16, 1, j, t, halves_low::lower_12(t), 12, r);
-    let t = 16 + j;
-    let c = halves_low::lower_12(t);
-    let x = with(16, j, t, c, 12, 32, r, a);
-    below_32_11(r - c, x)
-}
-
-fn below_32_13(r: u64, a: u64) -> u64
-    requires { ⌜ Sought 64 13 32 r a ⌝ }
-    ensures { λ x. ⌜ x ≡ a + value 13 r ⌝ }
-{
-    if r < 560 {
-        return below_16_13(r, below(16, 560, 13, 32, r, a));
-    }
-    let j = rows(16, 16, 560, 13, 32, r, a);
-    let t = middle(16, 8, j, 13, r);
-    let j = half(16, 8, j, t, halves_low::lower_13(t), 13, r);
-    let t = middle(16, 4, j, 13, r);
-    let j = half(16, 4, j, t, halves_low::lower_13(t), 13, r);
-    let t = middle(16, 2, j, 13, r);
-    let j = half(16, 2, j, t, halves_low::lower_13(t), 13, r);
-    let t = middle(16, 1, j, 13, r);
-    let j = half(16, 1, j, t, halves_low::lower_13(t), 13, r);
-    let t = 16 + j;
-    let c = halves_low::lower_13(t);
-    let x = with(16, j, t, c, 13, 32, r, a);
-    below_32_12(r - c, x)
-}
-
-fn below_32_14(r: u64, a: u64) -> u64
-    requires { ⌜ Sought 64 14 32 r a ⌝ }
-    ensures { λ x. ⌜ x ≡ a + value 14 r ⌝ }
-{
-    if r < 120 {
-        return below_16_14(r, below(16, 120, 14, 32, r, a));
-    }
-    let j = rows(16, 16, 120, 14, 32, r, a);
-    let t = middle(16, 8, j, 14, r);
-    let j = half(16, 8, j, t, halves_low::lower_14(t), 14, r);
-    let t = middle(16, 4, j, 14, r);
-    let j = half(16, 4, j, t, halves_low::lower_14(t), 14, r);
-    let t = middle(16, 2, j, 14, r);
-    let j = half(16, 2, j, t, halves_low::lower_14(t), 14, r);
-    let t = middle(16, 1, j, 14, r);
-    let j = half(16, 1, j, t, halves_low::lower_14(t), 14, r);
-    let t = 16 + j;
-    let c = halves_low::lower_14(t);
-    let x = with(16, j, t, c, 14, 32, r, a);
-    below_32_13(r - c, x)
-}
-
-fn below_32_15(r: u64, a: u64) -> u64
-    requires { ⌜ Sought 64 15 32 r a ⌝ }
-    ensures { λ x. ⌜ x ≡ a + value 15 r ⌝ }
-{
-    if r < 16 {
-        return below_16_15(r, below(16, 16, 15, 32, r, a));
-    }
-    let j = rows(16, 16, 16, 15, 32, r, a);
-    let t = middle(16, 8, j, 15, r);
-    let j = half(16, 8, j, t, halves_low::lower_15(t), 15, r);
-    let t = middle(16, 4, j, 15, r);
-    let j = half(16, 4, j, t, halves_low::lower_15(t), 15, r);
-    let t = middle(16, 2, j, 15, r);
-    let j = half(16, 2, j, t, halves_low::lower_15(t), 15, r);
-    let t = middle(16, 1, j, 15, r);
-    let j = half(16, 1, j, t, halves_low::lower_15(t), 15, r);
-    let t = 16 + j;
-    let c = halves_low::lower_15(t);
-    let x = with(16, j, t, c, 15, 32, r, a);
-    below_32_14(r - c, x)
-}
-
-fn below_32_16(r: u64, a: u64) -> u64
-    requires { ⌜ Sought 64 16 32 r a ⌝ }
-    ensures { λ x. ⌜ x ≡ a + value 16 r ⌝ }
-{
-    if r < 1 {
-        return below_16_16(r, below(16, 1, 16, 32, r, a));
-    }
-    let j = rows(16, 16, 1, 16, 32, r, a);
-    let t = middle(16, 8, j, 16, r);
-    let j = half(16, 8, j, t, halves_low::lower_16(t), 16, r);
-    let t = middle(16, 4, j, 16, r);
-    let j = half(16, 4, j, t, halves_low::lower_16(t), 16, r);
-    let t = middle(16, 2, j, 16, r);
-    let j = half(16, 2, j, t, halves_low::lower_16(t), 16, r);
-    let t = middle(16, 1, j, 16, r);
-    let j = half(16, 1, j, t, halves_low::lower_16(t), 16, r);
-    let t = 16 + j;
-    let c = halves_low::lower_16(t);
-    let x = with(16, j, t, c, 16, 32, r, a);
-    below_32_15(r - c, x)
-}
-
-fn below_32_17(r: u64, a: u64) -> u64
-    requires { ⌜ Sought 64 17 32 r a ⌝ }
-    ensures { λ x. ⌜ x ≡ a + value 17 r ⌝ }
-{
-    let j = rows(16, 16, 0, 17, 32, r, a);
-    let t = middle(16, 8, j, 17, r);
-    let j = half(16, 8, j, t, halves_high::lower_17(t), 17, r);
-    let t = middle(16, 4, j, 17, r);
-    let j = half(16, 4, j, t, halves_high::lower_17(t), 17, r);
-    let t = middle(16, 2, j, 17, r);
-    let j = half(16, 2, j, t, halves_high::lower_17(t), 17, r);
-    let t = middle(16, 1, j, 17, r);
-    let j = half(16, 1, j, t, halves_high::lower_17(t), 17, r);
-    let t = 16 + j;
-    let c = halves_high::lower_17(t);
-    let x = with(16, j, t, c, 17, 32, r, a);
-    below_32_16(r - c, x)
-}
-
-fn below_32_18(r: u64, a: u64) -> u64
-    requires { ⌜ Sought 64 18 32 r a ⌝ }
-    ensures { λ x. ⌜ x ≡ a + value 18 r ⌝ }
-{
-    let j = rows(16, 16, 0, 18, 32, r, a);
-    let t = middle(16, 8, j, 18, r);
-    let j = half(16, 8, j, t, halves_high::lower_18(t), 18, r);
-    let t = middle(16, 4, j, 18, r);
-    let j = half(16, 4, j, t, halves_high::lower_18(t), 18, r);
-    let t = middle(16, 2, j, 18, r);
-    let j = half(16, 2, j, t, halves_high::lower_18(t), 18, r);
-    let t = middle(16, 1, j, 18, r);
-    let j = half(16, 1, j, t, halves_high::lower_18(t), 18, r);
-    let t = 16 + j;
-    let c = halves_high::lower_18(t);
-    let x = with(16, j, t, c, 18, 32, r, a);
-    below_32_17(r - c, x)
-}
-
-fn below_32_19(r: u64, a: u64) -> u64
-    requires { ⌜ Sought 64 19 32 r a ⌝ }
-    ensures { λ x. ⌜ x ≡ a + value 19 r ⌝ }
-{
-    let j = rows(16, 16, 0, 19, 32, r, a);
-    let t = middle(16, 8, j, 19, r);
-    let j = half(16, 8, j, t, halves_high::lower_19(t), 19, r);
-    let t = middle(16, 4, j, 19, r);
-    let j = half(16, 4, j, t, halves_high::lower_19(t), 19, r);
-    let t = middle(16, 2, j, 19, r);
-    let j = half(16, 2, j, t, halves_high::lower_19(t), 19, r);
-    let t = middle(16, 1, j, 19, r);
-    let j = half(16, 1, j, t, halves_high::lower_19(t), 19, r);
-    let t = 16 + j;
-    let c = halves_high::lower_19(t);
-    let x = with(16, j, t, c, 19, 32, r, a);
-    below_32_18(r - c, x)
-}
-
-fn below_32_20(r: u64, a: u64) -> u64
-    requires { ⌜ Sought 64 20 32 r a ⌝ }
-    ensures { λ x. ⌜ x ≡ a + value 20 r ⌝ }
-{
-    let j = rows(16, 16, 0, 20, 32, r, a);
-    let t = middle(16, 8, j, 20, r);
-    let j = half(16, 8, j, t, halves_high::lower_20(t), 20, r);
-    let t = middle(16, 4, j, 20, r);
-    let j = half(16, 4, j, t, halves_high::lower_20(t), 20, r);
-    let t = middle(16, 2, j, 20, r);
-    let j = half(16, 2, j, t, halves_high::lower_20(t), 20, r);
-    let t = middle(16, 1, j, 20, r);
-    let j = half(16, 1, j, t, halves_high::lower_20(t), 20, r);
-    let t = 16 + j;
-    let c = halves_high::lower_20(t);
-    let x = with(16, j, t, c, 20, 32, r, a);
-    below_32_19(r - c, x)
-}
-
-fn below_32_21(r: u64, a: u64) -> u64
-    requires { ⌜ Sought 64 21 32 r a ⌝ }
-    ensures { λ x. ⌜ x ≡ a + value 21 r ⌝ }
-{
-    let j = rows(16, 16, 0, 21, 32, r, a);
-    let t = middle(16, 8, j, 21, r);
-    let j = half(16, 8, j, t, halves_high::lower_21(t), 21, r);
-    let t = middle(16, 4, j, 21, r);
-    let j = half(16, 4, j, t, halves_high::lower_21(t), 21, r);
-    let t = middle(16, 2, j, 21, r);
-    let j = half(16, 2, j, t, halves_high::lower_21(t), 21, r);
-    let t = middle(16, 1, j, 21, r);
-    let j = half(16, 1, j, t, halves_high::lower_21(t), 21, r);
-    let t = 16 + j;
-    let c = halves_high::lower_21(t);
-    let x = with(16, j, t, c, 21, 32, r, a);
-    below_32_20(r - c, x)
-}
-
-fn below_32_22(r: u64, a: u64) -> u64
-    requires { ⌜ Sought 64 22 32 r a ⌝ }
-    ensures { λ x. ⌜ x ≡ a + value 22 r ⌝ }
-{
-    let j = rows(16, 16, 0, 22, 32, r, a);
-    let t = middle(16, 8, j, 22, r);
-    let j = half(16, 8, j, t, halves_high::lower_22(t), 22, r);
-    let t = middle(16, 4, j, 22, r);
-    let j = half(16, 4, j, t, halves_high::lower_22(t), 22, r);
-    let t = middle(16, 2, j, 22, r);
-    let j = half(16, 2, j, t, halves_high::lower_22(t), 22, r);
-    let t = middle(16, 1, j, 22, r);
-    let j = half(16, 1, j, t, halves_high::lower_22(t), 22, r);
-    let t = 16 + j;
-    let c = halves_high::lower_22(t);
-    let x = with(16, j, t, c, 22, 32, r, a);
-    below_32_21(r - c, x)
-}
-
-fn below_32_23(r: u64, a: u64) -> u64
-    requires { ⌜ Sought 64 23 32 r a ⌝ }
-    ensures { λ x. ⌜ x ≡ a + value 23 r ⌝ }
-{
-    let j = rows(16, 16, 0, 23, 32, r, a);
-    let t = middle(16, 8, j, 23, r);
-    let j = half(16, 8, j, t, halves_high::lower_23(t), 23, r);
-    let t = middle(16, 4, j, 23, r);
-    let j = half(16, 4, j, t, halves_high::lower_23(t), 23, r);
-    let t = middle(16, 2, j, 23, r);
-    let j = half(16, 2, j, t, halves_high::lower_23(t), 23, r);
-    let t = middle(16, 1, j, 23, r);
-    let j = half(16, 1, j, t, halves_high::lower_23(t), 23, r);
-    let t = 16 + j;
-    let c = halves_high::lower_23(t);
-    let x = with(16, j, t, c, 23, 32, r, a);
-    below_32_22(r - c, x)
-}
-
-fn below_32_24(r: u64, a: u64) -> u64
-    requires { ⌜ Sought 64 24 32 r a ⌝ }
-    ensures { λ x. ⌜ x ≡ a + value 24 r ⌝ }
-{
-    let j = rows(16, 16, 0, 24, 32, r, a);
-    let t = middle(16, 8, j, 24, r);
-    let j = half(16, 8, j, t, halves_high::lower_24(t), 24, r);
-    let t = middle(16, 4, j, 24, r);
-    let j = half(16, 4, j, t, halves_high::lower_24(t), 24, r);
-    let t = middle(16, 2, j, 24, r);
-    let j = half(16, 2, j, t, halves_high::lower_24(t), 24, r);
-    let t = middle(16, 1, j, 24, r);
-    let j = half(16, 1, j, t, halves_high::lower_24(t), 24, r);
-    let t = 16 + j;
-    let c = halves_high::lower_24(t);
-    let x = with(16, j, t, c, 24, 32, r, a);
-    below_32_23(r - c, x)
-}
-
-fn below_32_25(r: u64, a: u64) -> u64
-    requires { ⌜ Sought 64 25 32 r a ⌝ }
-    ensures { λ x. ⌜ x ≡ a + value 25 r ⌝ }
-{
-    let j = rows(24, 8, 0, 25, 32, r, a);
-    let t = middle(24, 4, j, 25, r);
-    let j = half(24, 4, j, t, halves_high::lower_25(t), 25, r);
-    let t = middle(24, 2, j, 25, r);
-    let j = half(24, 2, j, t, halves_high::lower_25(t), 25, r);
-    let t = middle(24, 1, j, 25, r);
-    let j = half(24, 1, j, t, halves_high::lower_25(t), 25, r);
-    let t = 24 + j;
-    let c = halves_high::lower_25(t);
-    let x = with(24, j, t, c, 25, 32, r, a);
-    below_32_24(r - c, x)
-}
-
-fn below_32_26(r: u64, a: u64) -> u64
-    requires { ⌜ Sought 64 26 32 r a ⌝ }
-    ensures { λ x. ⌜ x ≡ a + value 26 r ⌝ }
-{
-    let j = rows(24, 8, 0, 26, 32, r, a);
-    let t = middle(24, 4, j, 26, r);
-    let j = half(24, 4, j, t, halves_high::lower_26(t), 26, r);
-    let t = middle(24, 2, j, 26, r);
-    let j = half(24, 2, j, t, halves_high::lower_26(t), 26, r);
-    let t = middle(24, 1, j, 26, r);
-    let j = half(24, 1, j, t, halves_high::lower_26(t), 26, r);
-    let t = 24 + j;
-    let c = halves_high::lower_26(t);
-    let x = with(24, j, t, c, 26, 32, r, a);
-    below_32_25(r - c, x)
-}
-
-fn below_32_27(r: u64, a: u64) -> u64
-    requires { ⌜ Sought 64 27 32 r a ⌝ }
-    ensures { λ x. ⌜ x ≡ a + value 27 r ⌝ }
-{
-    let j = rows(24, 8, 0, 27, 32, r, a);
-    let t = middle(24, 4, j, 27, r);
-    let j = half(24, 4, j, t, halves_high::lower_27(t), 27, r);
-    let t = middle(24, 2, j, 27, r);
-    let j = half(24, 2, j, t, halves_high::lower_27(t), 27, r);
-    let t = middle(24, 1, j, 27, r);
-    let j = half(24, 1, j, t, halves_high::lower_27(t), 27, r);
-    let t = 24 + j;
-    let c = halves_high::lower_27(t);
-    let x = with(24, j, t, c, 27, 32, r, a);
-    below_32_26(r - c, x)
-}
-
-fn below_32_28(r: u64, a: u64) -> u64
-    requires { ⌜ Sought 64 28 32 r a ⌝ }
-    ensures { λ x. ⌜ x ≡ a + value 28 r ⌝ }
-{
-    let j = rows(24, 8, 0, 28, 32, r, a);
-    let t = middle(24, 4, j, 28, r);
-    let j = half(24, 4, j, t, halves_high::lower_28(t), 28, r);
-    let t = middle(24, 2, j, 28, r);
-    let j = half(24, 2, j, t, halves_high::lower_28(t), 28, r);
-    let t = middle(24, 1, j, 28, r);
-    let j = half(24, 1, j, t, halves_high::lower_28(t), 28, r);
-    let t = 24 + j;
-    let c = halves_high::lower_28(t);
-    let x = with(24, j, t, c, 28, 32, r, a);
-    below_32_27(r - c, x)
-}
-
-fn below_32_29(r: u64, a: u64) -> u64
-    requires { ⌜ Sought 64 29 32 r a ⌝ }
-    ensures { λ x. ⌜ x ≡ a + value 29 r ⌝ }
-{
-    let j = rows(28, 4, 0, 29, 32, r, a);
-    let t = middle(28, 2, j, 29, r);
-    let j = half(28, 2, j, t, halves_high::lower_29(t), 29, r);
-    let t = middle(28, 1, j, 29, r);
-    let j = half(28, 1, j, t, halves_high::lower_29(t), 29, r);
-    let t = 28 + j;
-    let c = halves_high::lower_29(t);
-    let x = with(28, j, t, c, 29, 32, r, a);
-    below_32_28(r - c, x)
-}
-
-fn below_32_30(r: u64, a: u64) -> u64
-    requires { ⌜ Sought 64 30 32 r a ⌝ }
-    ensures { λ x. ⌜ x ≡ a + value 30 r ⌝ }
-{
-    let j = rows(28, 4, 0, 30, 32, r, a);
-    let t = middle(28, 2, j, 30, r);
-    let j = half(28, 2, j, t, halves_high::lower_30(t), 30, r);
-    let t = middle(28, 1, j, 30, r);
-    let j = half(28, 1, j, t, halves_high::lower_30(t), 30, r);
-    let t = 28 + j;
-    let c = halves_high::lower_30(t);
-    let x = with(28, j, t, c, 30, 32, r, a);
-    below_32_29(r - c, x)
-}
-
-fn below_32_31(r: u64, a: u64) -> u64
-    requires { ⌜ Sought 64 31 32 r a ⌝ }
-    ensures { λ x. ⌜ x ≡ a + value 31 r ⌝ }
-{
-    let j = rows(30, 2, 0, 31, 32, r, a);
-    let t = middle(30, 1, j, 31, r);
-    let j = half(30, 1, j, t, halves_high::lower_31(t), 31, r);
-    let t = 30 + j;
-    let c = halves_high::lower_31(t);
-    let x = with(30, j, t, c, 31, 32, r, a);
-    below_32_30(r - c, x)
-}
-
-fn below_32_32(r: u64, a: u64) -> u64
-    requires { ⌜ Sought 64 32 32 r a ⌝ }
-    ensures { λ x. ⌜ x ≡ a + value 32 r ⌝ }
-{
-    let j = rows(31, 1, 0, 32, 32, r, a);
-    let t = 31 + j;
-    let c = halves_high::lower_32(t);
-    let x = with(31, j, t, c, 32, 32, r, a);
-    below_32_31(r - c, x)
-}
-
-fn below_48_2(r: u64, a: u64) -> u64
-    requires { ⌜ Sought 64 2 48 r a ⌝ }
-    ensures { λ x. ⌜ x ≡ a + value 2 r ⌝ }
-{
-    if r < 496 {
-        return below_32_2(r, below(32, 496, 2, 48, r, a));
-    }
-    let j = rows(32, 16, 496, 2, 48, r, a);
-    let t = middle(32, 8, j, 2, r);
-    let j = half(32, 8, j, t, halves_low::upper_2(t), 2, r);
-    let t = middle(32, 4, j, 2, r);
-    let j = half(32, 4, j, t, halves_low::upper_2(t), 2, r);
-    let t = middle(32, 2, j, 2, r);
-    let j = half(32, 2, j, t, halves_low::upper_2(t), 2, r);
-    let t = middle(32, 1, j, 2, r);
-    let j = half(32, 1, j, t, halves_low::upper_2(t), 2, r);
-    let t = 32 + j;
-    let c = halves_low::upper_2(t);
-    let x = with(32, j, t, c, 2, 48, r, a);
-    last(48, r - c, x)
-}
-
-fn below_48_3(r: u64, a: u64) -> u64
-    requires { ⌜ Sought 64 3 48 r a ⌝ }
-    ensures { λ x. ⌜ x ≡ a + value 3 r ⌝ }
-{
-    if r < 4960 {
-        return below_32_3(r, below(32, 4960, 3, 48, r, a));
-    }
-    let j = rows(32, 16, 4960, 3, 48, r, a);
-    let t = middle(32, 8, j, 3, r);
-    let j = half(32, 8, j, t, halves_low::upper_3(t), 3, r);
-    let t = middle(32, 4, j, 3, r);
-    let j = half(32, 4, j, t, halves_low::upper_3(t), 3, r);
-    let t = middle(32, 2, j, 3, r);
-    let j = half(32, 2, j, t, halves_low::upper_3(t), 3, r);
-    let t = middle(32, 1, j, 3, r);
-    let j = half(32, 1, j, t, halves_low::upper_3(t), 3, r);
-    let t = 32 + j;
-    let c = halves_low::upper_3(t);
-    let x = with(32, j, t, c, 3, 48, r, a);
-    below_48_2(r - c, x)
-}
-
-fn below_48_4(r: u64, a: u64) -> u64
-    requires { ⌜ Sought 64 4 48 r a ⌝ }
-    ensures { λ x. ⌜ x ≡ a + value 4 r ⌝ }
-{
-    if r < 35960 {
-        return below_32_4(r, below(32, 35960, 4, 48, r, a));
-    }
-    let j = rows(32, 16, 35960, 4, 48, r, a);
-    let t = middle(32, 8, j, 4, r);
-    let j = half(32, 8, j, t, halves_low::upper_4(t), 4, r);
-    let t = middle(32, 4, j, 4, r);
-    let j = half(32, 4, j, t, halves_low::upper_4(t), 4, r);
-    let t = middle(32, 2, j, 4, r);
-    let j = half(32, 2, j, t, halves_low::upper_4(t), 4, r);
-    let t = middle(32, 1, j, 4, r);
-    let j = half(32, 1, j, t, halves_low::upper_4(t), 4, r);
-    let t = 32 + j;
-    let c = halves_low::upper_4(t);
-    let x = with(32, j, t, c, 4, 48, r, a);
-    below_48_3(r - c, x)
-}
-
-fn below_48_5(r: u64, a: u64) -> u64
-    requires { ⌜ Sought 64 5 48 r a ⌝ }
-    ensures { λ x. ⌜ x ≡ a + value 5 r ⌝ }
-{
-    if r < 201376 {
-        return below_32_5(r, below(32, 201376, 5, 48, r, a));
-    }
-    let j = rows(32, 16, 201376, 5, 48, r, a);
-    let t = middle(32, 8, j, 5, r);
-    let j = half(32, 8, j, t, halves_low::upper_5(t), 5, r);
-    let t = middle(32, 4, j, 5, r);
-    let j = half(32, 4, j, t, halves_low::upper_5(t), 5, r);
-    let t = middle(32, 2, j, 5, r);
-    let j = half(32, 2, j, t, halves_low::upper_5(t), 5, r);
-    let t = middle(32, 1, j, 5, r);
-    let j = half(32, 1, j, t, halves_low::upper_5(t), 5, r);
-    let t = 32 + j;
-    let c = halves_low::upper_5(t);
-    let x = with(32, j, t, c, 5, 48, r, a);
-    below_48_4(r - c, x)
-}
-
-fn below_48_6(r: u64, a: u64) -> u64
-    requires { ⌜ Sought 64 6 48 r a ⌝ }
-    ensures { λ x. ⌜ x ≡ a + value 6 r ⌝ }
-{
-    if r < 906192 {
-        return below_32_6(r, below(32, 906192, 6, 48, r, a));
-    }
-    let j = rows(32, 16, 906192, 6, 48, r, a);
-    let t = middle(32, 8, j, 6, r);
-    let j = half(32, 8, j, t, halves_low::upper_6(t), 6, r);
-    let t = middle(32, 4, j, 6, r);
-    let j = half(32, 4, j, t, halves_low::upper_6(t), 6, r);
-    let t = middle(32, 2, j, 6, r);
-    let j = half(32, 2, j, t, halves_low::upper_6(t), 6, r);
-    let t = middle(32, 1, j, 6, r);
-    let j = half(32, 1, j, t, halves_low::upper_6(t), 6, r);
-    let t = 32 + j;
-    let c = halves_low::upper_6(t);
-    let x = with(32, j, t, c, 6, 48, r, a);
-    below_48_5(r - c, x)
-}
-
-fn below_48_7(r: u64, a: u64) -> u64
-    requires { ⌜ Sought 64 7 48 r a ⌝ }
-    ensures { λ x. ⌜ x ≡ a + value 7 r ⌝ }
-{
-    if r < 3365856 {
-        return below_32_7(r, below(32, 3365856, 7, 48, r, a));
-    }
-    let j = rows(32, 16, 3365856, 7, 48, r, a);
-    let t = middle(32, 8, j, 7, r);
-    let j = half(32, 8, j, t, halves_low::upper_7(t), 7, r);
-    let t = middle(32, 4, j, 7, r);
-    let j = half(32, 4, j, t, halves_low::upper_7(t), 7, r);
-    let t = middle(32, 2, j, 7, r);
-    let j = half(32, 2, j, t, halves_low::upper_7(t), 7, r);
-    let t = middle(32, 1, j, 7, r);
-    let j = half(32, 1, j, t, halves_low::upper_7(t), 7, r);
-    let t = 32 + j;
-    let c = halves_low::upper_7(t);
-    let x = with(32, j, t, c, 7, 48, r, a);
-    below_48_6(r - c, x)
-}
-
-fn below_48_8(r: u64, a: u64) -> u64
-    requires { ⌜ Sought 64 8 48 r a ⌝ }
-    ensures { λ x. ⌜ x ≡ a + value 8 r ⌝ }
-{
-    if r < 10518300 {
-        return below_32_8(r, below(32, 10518300, 8, 48, r, a));
-    }
-    let j = rows(32, 16, 10518300, 8, 48, r, a);
-    let t = middle(32, 8, j, 8, r);
-    let j = half(32, 8, j, t, halves_low::upper_8(t), 8, r);
-    let t = middle(32, 4, j, 8, r);
-    let j = half(32, 4, j, t, halves_low::upper_8(t), 8, r);
-    let t = middle(32, 2, j, 8, r);
-    let j = half(32, 2, j, t, halves_low::upper_8(t), 8, r);
-    let t = middle(32, 1, j, 8, r);
-    let j = half(32, 1, j, t, halves_low::upper_8(t), 8, r);
-    let t = 32 + j;
-    let c = halves_low::upper_8(t);
-    let x = with(32, j, t, c, 8, 48, r, a);
-    below_48_7(r - c, x)
-}
-
-fn below_48_9(r: u64, a: u64) -> u64
-    requires { ⌜ Sought 64 9 48 r a ⌝ }
-    ensures { λ x. ⌜ x ≡ a + value 9 r ⌝ }
-{
-    if r < 28048800 {
-        return below_32_9(r, below(32, 28048800, 9, 48, r, a));
-    }
-    let j = rows(32, 16, 28048800, 9, 48, r, a);
-    let t = middle(32, 8, j, 9, r);
-    let j = half(32, 8, j, t, halves_low::upper_9(t), 9, r);
-    let t = middle(32, 4, j, 9, r);
-    let j = half(32, 4, j, t, halves_low::upper_9(t), 9, r);
-    let t = middle(32, 2, j, 9, r);
-    let j = half(32, 2, j, t, halves_low::upper_9(t), 9, r);
-    let t = middle(32, 1, j, 9, r);
-    let j = half(32, 1, j, t, halves_low::upper_9(t), 9, r);
-    let t = 32 + j;
-    let c = halves_low::upper_9(t);
-    let x = with(32, j, t, c, 9, 48, r, a);
-    below_48_8(r - c, x)
-}
-
-fn below_48_10(r: u64, a: u64) -> u64
-    requires { ⌜ Sought 64 10 48 r a ⌝ }
-    ensures { λ x. ⌜ x ≡ a + value 10 r ⌝ }
-{
-    if r < 64512240 {
-        return below_32_10(r, below(32, 64512240, 10, 48, r, a));
-    }
-    let j = rows(32, 16, 64512240, 10, 48, r, a);
-    let t = middle(32, 8, j, 10, r);
-    let j = half(32, 8, j, t, halves_low::upper_10(t), 10, r);
-    let t = middle(32, 4, j, 10, r);
-    let j = half(32, 4, j, t, halves_low::upper_10(t), 10, r);
-    let t = middle(32, 2, j, 10, r);
-    let j = half(32, 2, j, t, halves_low::upper_10(t), 10, r);
-    let t = middle(32, 1, j, 10, r);
-    let j = half(32, 1, j, t, halves_low::upper_10(t), 10, r);
-    let t = 32 + j;
-    let c = halves_low::upper_10(t);
-    let x = with(32, j, t, c, 10, 48, r, a);
-    below_48_9(r - c, x)
-}
-
-fn below_48_11(r: u64, a: u64) -> u64
-    requires { ⌜ Sought 64 11 48 r a ⌝ }
-    ensures { λ x. ⌜ x ≡ a + value 11 r ⌝ }
-{
-    if r < 129024480 {
-        return below_32_11(r, below(32, 129024480, 11, 48, r, a));
-    }
-    let j = rows(32, 16, 129024480, 11, 48, r, a);
-    let t = middle(32, 8, j, 11, r);
-    let j = half(32, 8, j, t, halves_low::upper_11(t), 11, r);
-    let t = middle(32, 4, j, 11, r);
-    let j = half(32, 4, j, t, halves_low::upper_11(t), 11, r);
-    let t = middle(32, 2, j, 11, r);
-    let j = half(32, 2, j, t, halves_low::upper_11(t), 11, r);
-    let t = middle(32, 1, j, 11, r);
-    let j = half(32, 1, j, t, halves_low::upper_11(t), 11, r);
-    let t = 32 + j;
-    let c = halves_low::upper_11(t);
-    let x = with(32, j, t, c, 11, 48, r, a);
-    below_48_10(r - c, x)
-}
-
-fn below_48_12(r: u64, a: u64) -> u64
-    requires { ⌜ Sought 64 12 48 r a ⌝ }
-    ensures { λ x. ⌜ x ≡ a + value 12 r ⌝ }
-{
-    if r < 225792840 {
-        return below_32_12(r, below(32, 225792840, 12, 48, r, a));
-    }
-    let j = rows(32, 16, 225792840, 12, 48, r, a);
-    let t = middle(32, 8, j, 12, r);
-    let j = half(32, 8, j, t, halves_low::upper_12(t), 12, r);
-    let t = middle(32, 4, j, 12, r);
-    let j = half(32, 4, j, t, halves_low::upper_12(t), 12, r);
-    let t = middle(32, 2, j, 12, r);
-    let j = half(32, 2, j, t, halves_low::upper_12(t), 12, r);
-    let t = middle(32, 1, j, 12, r);
-    let j = half(32, 1, j, t, halves_low::upper_12(t), 12, r);
-    let t = 32 + j;
-    let c = halves_low::upper_12(t);
-    let x = with(32, j, t, c, 12, 48, r, a);
-    below_48_11(r - c, x)
-}
-
-fn below_48_13(r: u64, a: u64) -> u64
-    requires { ⌜ Sought 64 13 48 r a ⌝ }
-    ensures { λ x. ⌜ x ≡ a + value 13 r ⌝ }
-{
-    if r < 347373600 {
-        return below_32_13(r, below(32, 347373600, 13, 48, r, a));
-    }
-    let j = rows(32, 16, 347373600, 13, 48, r, a);
-    let t = middle(32, 8, j, 13, r);
-    let j = half(32, 8, j, t, halves_low::upper_13(t), 13, r);
-    let t = middle(32, 4, j, 13, r);
-    let j = half(32, 4, j, t, halves_low::upper_13(t), 13, r);
-    let t = middle(32, 2, j, 13, r);
-    let j = half(32, 2, j, t, halves_low::upper_13(t), 13, r);
-    let t = middle(32, 1, j, 13, r);
-    let j = half(32, 1, j, t, halves_low::upper_13(t), 13, r);
-    let t = 32 + j;
-    let c = halves_low::upper_13(t);
-    let x = with(32, j, t, c, 13, 48, r, a);
-    below_48_12(r - c, x)
-}
-
-fn below_48_14(r: u64, a: u64) -> u64
-    requires { ⌜ Sought 64 14 48 r a ⌝ }
-    ensures { λ x. ⌜ x ≡ a + value 14 r ⌝ }
-{
-    if r < 471435600 {
-        return below_32_14(r, below(32, 471435600, 14, 48, r, a));
-    }
-    let j = rows(32, 16, 471435600, 14, 48, r, a);
-    let t = middle(32, 8, j, 14, r);
-    let j = half(32, 8, j, t, halves_low::upper_14(t), 14, r);
-    let t = middle(32, 4, j, 14, r);
-    let j = half(32, 4, j, t, halves_low::upper_14(t), 14, r);
-    let t = middle(32, 2, j, 14, r);
-    let j = half(32, 2, j, t, halves_low::upper_14(t), 14, r);
-    let t = middle(32, 1, j, 14, r);
-    let j = half(32, 1, j, t, halves_low::upper_14(t), 14, r);
-    let t = 32 + j;
-    let c = halves_low::upper_14(t);
-    let x = with(32, j, t, c, 14, 48, r, a);
-    below_48_13(r - c, x)
-}
-
-fn below_48_15(r: u64, a: u64) -> u64
-    requires { ⌜ Sought 64 15 48 r a ⌝ }
-    ensures { λ x. ⌜ x ≡ a + value 15 r ⌝ }
-{
-    if r < 565722720 {
-        return below_32_15(r, below(32, 565722720, 15, 48, r, a));
-    }
-    let j = rows(32, 16, 565722720, 15, 48, r, a);
-    let t = middle(32, 8, j, 15, r);
-    let j = half(32, 8, j, t, halves_low::upper_15(t), 15, r);
-    let t = middle(32, 4, j, 15, r);
-    let j = half(32, 4, j, t, halves_low::upper_15(t), 15, r);
-    let t = middle(32, 2, j, 15, r);
-    let j = half(32, 2, j, t, halves_low::upper_15(t), 15, r);
-    let t = middle(32, 1, j, 15, r);
-    let j = half(32, 1, j, t, halves_low::upper_15(t), 15, r);
-    let t = 32 + j;
-    let c = halves_low::upper_15(t);
-    let x = with(32, j, t, c, 15, 48, r, a);
-    below_48_14(r - c, x)
-}
-
-fn below_48_16(r: u64, a: u64) -> u64
-    requires { ⌜ Sought 64 16 48 r a ⌝ }
-    ensures { λ x. ⌜ x ≡ a + value 16 r ⌝ }
-{
-    if r < 601080390 {
-        return below_32_16(r, below(32, 601080390, 16, 48, r, a));
-    }
-    let j = rows(32, 16, 601080390, 16, 48, r, a);
-    let t = middle(32, 8, j, 16, r);
-    let j = half(32, 8, j, t, halves_low::upper_16(t), 16, r);
-    let t = middle(32, 4, j, 16, r);
-    let j = half(32, 4, j, t, halves_low::upper_16(t), 16, r);
-    let t = middle(32, 2, j, 16, r);
-    let j = half(32, 2, j, t, halves_low::upper_16(t), 16, r);
-    let t = middle(32, 1, j, 16, r);
-    let j = half(32, 1, j, t, halves_low::upper_16(t), 16, r);
-    let t = 32 + j;
-    let c = halves_low::upper_16(t);
-    let x = with(32, j, t, c, 16, 48, r, a);
-    below_48_15(r - c, x)
-}
-
-fn below_48_17(r: u64, a: u64) -> u64
-    requires { ⌜ Sought 64 17 48 r a ⌝ }
-    ensures { λ x. ⌜ x ≡ a + value 17 r ⌝ }
-{
-    if r < 565722720 {
-        return below_32_17(r, below(32, 565722720, 17, 48, r, a));
-    }
-    let j = rows(32, 16, 565722720, 17, 48, r, a);
-    let t = middle(32, 8, j, 17, r);
-    let j = half(32, 8, j, t, halves_high::upper_17(t), 17, r);
-    let t = middle(32, 4, j, 17, r);
-    let j = half(32, 4, j, t, halves_high::upper_17(t), 17, r);
-    let t = middle(32, 2, j, 17, r);
-    let j = half(32, 2, j, t, halves_high::upper_17(t), 17, r);
-    let t = middle(32, 1, j, 17, r);
-    let j = half(32, 1, j, t, halves_high::upper_17(t), 17, r);
-    let t = 32 + j;
-    let c = halves_high::upper_17(t);
-    let x = with(32, j, t, c, 17, 48, r, a);
-    below_48_16(r - c, x)
-}
-
-fn below_48_18(r: u64, a: u64) -> u64
-    requires { ⌜ Sought 64 18 48 r a ⌝ }
-    ensures { λ x. ⌜ x ≡ a + value 18 r ⌝ }
-{
-    if r < 471435600 {
-        return below_32_18(r, below(32, 471435600, 18, 48, r, a));
-    }
-    let j = rows(32, 16, 471435600, 18, 48, r, a);
-    let t = middle(32, 8, j, 18, r);
-    let j = half(32, 8, j, t, halves_high::upper_18(t), 18, r);
-    let t = middle(32, 4, j, 18, r);
-    let j = half(32, 4, j, t, halves_high::upper_18(t), 18, r);
-    let t = middle(32, 2, j, 18, r);
-    let j = half(32, 2, j, t, halves_high::upper_18(t), 18, r);
-    let t = middle(32, 1, j, 18, r);
-    let j = half(32, 1, j, t, halves_high::upper_18(t), 18, r);
-    let t = 32 + j;
-    let c = halves_high::upper_18(t);
-    let x = with(32, j, t, c, 18, 48, r, a);
-    below_48_17(r - c, x)
-}
-
-fn below_48_19(r: u64, a: u64) -> u64
-    requires { ⌜ Sought 64 19 48 r a ⌝ }
-    ensures { λ x. ⌜ x ≡ a + value 19 r ⌝ }
-{
-    if r < 347373600 {
-        return below_32_19(r, below(32, 347373600, 19, 48, r, a));
-    }
-    let j = rows(32, 16, 347373600, 19, 48, r, a);
-    let t = middle(32, 8, j, 19, r);
-    let j = half(32, 8, j, t, halves_high::upper_19(t), 19, r);
-    let t = middle(32, 4, j, 19, r);
-    let j = half(32, 4, j, t, halves_high::upper_19(t), 19, r);
-    let t = middle(32, 2, j, 19, r);
-    let j = half(32, 2, j, t, halves_high::upper_19(t), 19, r);
-    let t = middle(32, 1, j, 19, r);
-    let j = half(32, 1, j, t, halves_high::upper_19(t), 19, r);
-    let t = 32 + j;
-    let c = halves_high::upper_19(t);
-    let x = with(32, j, t, c, 19, 48, r, a);
-    below_48_18(r - c, x)
-}
-
-fn below_48_20(r: u64, a: u64) -> u64
-    requires { ⌜ Sought 64 20 48 r a ⌝ }
-    ensures { λ x. ⌜ x ≡ a + value 20 r ⌝ }
-{
-    if r < 225792840 {
-        return below_32_20(r, below(32, 225792840, 20, 48, r, a));
-    }
-    let j = rows(32, 16, 225792840, 20, 48, r, a);
-    let t = middle(32, 8, j, 20, r);
-    let j = half(32, 8, j, t, halves_high::upper_20(t), 20, r);
-    let t = middle(32, 4, j, 20, r);
-    let j = half(32, 4, j, t, halves_high::upper_20(t), 20, r);
-    let t = middle(32, 2, j, 20, r);
-    let j = half(32, 2, j, t, halves_high::upper_20(t), 20, r);
-    let t = middle(32, 1, j, 20, r);
-    let j = half(32, 1, j, t, halves_high::upper_20(t), 20, r);
-    let t = 32 + j;
-    let c = halves_high::upper_20(t);
-    let x = with(32, j, t, c, 20, 48, r, a);
-    below_48_19(r - c, x)
-}
-
-fn below_48_21(r: u64, a: u64) -> u64
-    requires { ⌜ Sought 64 21 48 r a ⌝ }
-    ensures { λ x. ⌜ x ≡ a + value 21 r ⌝ }
-{
-    if r < 129024480 {
-        return below_32_21(r, below(32, 129024480, 21, 48, r, a));
-    }
-    let j = rows(32, 16, 129024480, 21, 48, r, a);
-    let t = middle(32, 8, j, 21, r);
-    let j = half(32, 8, j, t, halves_high::upper_21(t), 21, r);
-    let t = middle(32, 4, j, 21, r);
-    let j = half(32, 4, j, t, halves_high::upper_21(t), 21, r);
-    let t = middle(32, 2, j, 21, r);
-    let j = half(32, 2, j, t, halves_high::upper_21(t), 21, r);
-    let t = middle(32, 1, j, 21, r);
-    let j = half(32, 1, j, t, halves_high::upper_21(t), 21, r);
-    let t = 32 + j;
-    let c = halves_high::upper_21(t);
-    let x = with(32, j, t, c, 21, 48, r, a);
-    below_48_20(r - c, x)
-}
-
-fn below_48_22(r: u64, a: u64) -> u64
-    requires { ⌜ Sought 64 22 48 r a ⌝ }
-    ensures { λ x. ⌜ x ≡ a + value 22 r ⌝ }
-{
-    if r < 64512240 {
-        return below_32_22(r, below(32, 64512240, 22, 48, r, a));
-    }
-    let j = rows(32, 16, 64512240, 22, 48, r, a);
-    let t = middle(32, 8, j, 22, r);
-    let j = half(32, 8, j, t, halves_high::upper_22(t), 22, r);
-    let t = middle(32, 4, j, 22, r);
-    let j = half(32, 4, j, t, halves_high::upper_22(t), 22, r);
-    let t = middle(32, 2, j, 22, r);
-    let j = half(32, 2, j, t, halves_high::upper_22(t), 22, r);
-    let t = middle(32, 1, j, 22, r);
-    let j = half(32, 1, j, t, halves_high::upper_22(t), 22, r);
-    let t = 32 + j;
-    let c = halves_high::upper_22(t);
-    let x = with(32, j, t, c, 22, 48, r, a);
-    below_48_21(r - c, x)
-}
-
-fn below_48_23(r: u64, a: u64) -> u64
-    requires { ⌜ Sought 64 23 48 r a ⌝ }
-    ensures { λ x. ⌜ x ≡ a + value 23 r ⌝ }
-{
-    if r < 28048800 {
-        return below_32_23(r, below(32, 28048800, 23, 48, r, a));
-    }
-    let j = rows(32, 16, 28048800, 23, 48, r, a);
-    let t = middle(32, 8, j, 23, r);
-    let j = half(32, 8, j, t, halves_high::upper_23(t), 23, r);
-    let t = middle(32, 4, j, 23, r);
-    let j = half(32, 4, j, t, halves_high::upper_23(t), 23, r);
-    let t = middle(32, 2, j, 23, r);
-    let j = half(32, 2, j, t, halves_high::upper_23(t), 23, r);
-    let t = middle(32, 1, j, 23, r);
-    let j = half(32, 1, j, t, halves_high::upper_23(t), 23, r);
-    let t = 32 + j;
-    let c = halves_high::upper_23(t);
-    let x = with(32, j, t, c, 23, 48, r, a);
-    below_48_22(r - c, x)
-}
-
-fn below_48_24(r: u64, a: u64) -> u64
-    requires { ⌜ Sought 64 24 48 r a ⌝ }
-    ensures { λ x. ⌜ x ≡ a + value 24 r ⌝ }
-{
-    if r < 10518300 {
-        return below_32_24(r, below(32, 10518300, 24, 48, r, a));
-    }
-    let j = rows(32, 16, 10518300, 24, 48, r, a);
-    let t = middle(32, 8, j, 24, r);
-    let j = half(32, 8, j, t, halves_high::upper_24(t), 24, r);
-    let t = middle(32, 4, j, 24, r);
-    let j = half(32, 4, j, t, halves_high::upper_24(t), 24, r);
-    let t = middle(32, 2, j, 24, r);
-    let j = half(32, 2, j, t, halves_high::upper_24(t), 24, r);
-    let t = middle(32, 1, j, 24, r);
-    let j = half(32, 1, j, t, halves_high::upper_24(t), 24, r);
-    let t = 32 + j;
-    let c = halves_high::upper_24(t);
-    let x = with(32, j, t, c, 24, 48, r, a);
-    below_48_23(r - c, x)
-}
-
-fn below_48_25(r: u64, a: u64) -> u64
-    requires { ⌜ Sought 64 25 48 r a ⌝ }
-    ensures { λ x. ⌜ x ≡ a + value 25 r ⌝ }
-{
-    if r < 3365856 {
-        return below_32_25(r, below(32, 3365856, 25, 48, r, a));
-    }
-    let j = rows(32, 16, 3365856, 25, 48, r, a);
-    let t = middle(32, 8, j, 25, r);
-    let j = half(32, 8, j, t, halves_high::upper_25(t), 25, r);
-    let t = middle(32, 4, j, 25, r);
-    let j = half(32, 4, j, t, halves_high::upper_25(t), 25, r);
-    let t = middle(32, 2, j, 25, r);
-    let j = half(32, 2, j, t, halves_high::upper_25(t), 25, r);
-    let t = middle(32, 1, j, 25, r);
-    let j = half(32, 1, j, t, halves_high::upper_25(t), 25, r);
-    let t = 32 + j;
-    let c = halves_high::upper_25(t);
-    let x = with(32, j, t, c, 25, 48, r, a);
-    below_48_24(r - c, x)
-}
-
-fn below_48_26(r: u64, a: u64) -> u64
-    requires { ⌜ Sought 64 26 48 r a ⌝ }
-    ensures { λ x. ⌜ x ≡ a + value 26 r ⌝ }
-{
-    if r < 906192 {
-        return below_32_26(r, below(32, 906192, 26, 48, r, a));
-    }
-    let j = rows(32, 16, 906192, 26, 48, r, a);
-    let t = middle(32, 8, j, 26, r);
-    let j = half(32, 8, j, t, halves_high::upper_26(t), 26, r);
-    let t = middle(32, 4, j, 26, r);
-    let j = half(32, 4, j, t, halves_high::upper_26(t), 26, r);
-    let t = middle(32, 2, j, 26, r);
-    let j = half(32, 2, j, t, halves_high::upper_26(t), 26, r);
-    let t = middle(32, 1, j, 26, r);
-    let j = half(32, 1, j, t, halves_high::upper_26(t), 26, r);
-    let t = 32 + j;
-    let c = halves_high::upper_26(t);
-    let x = with(32, j, t, c, 26, 48, r, a);
-    below_48_25(r - c, x)
-}
-
-fn below_48_27(r: u64, a: u64) -> u64
-    requires { ⌜ Sought 64 27 48 r a ⌝ }
-    ensures { λ x. ⌜ x ≡ a + value 27 r ⌝ }
-{
-    if r < 201376 {
-        return below_32_27(r, below(32, 201376, 27, 48, r, a));
-    }
-    let j = rows(32, 16, 201376, 27, 48, r, a);
-    let t = middle(32, 8, j, 27, r);
-    let j = half(32, 8, j, t, halves_high::upper_27(t), 27, r);
-    let t = middle(32, 4, j, 27, r);
-    let j = half(32, 4, j, t, halves_high::upper_27(t), 27, r);
-    let t = middle(32, 2, j, 27, r);
-    let j = half(32, 2, j, t, halves_high::upper_27(t), 27, r);
-    let t = middle(32, 1, j, 27, r);
-    let j = half(32, 1, j, t, halves_high::upper_27(t), 27, r);
-    let t = 32 + j;
-    let c = halves_high::upper_27(t);
-    let x = with(32, j, t, c, 27, 48, r, a);
-    below_48_26(r - c, x)
-}
-
-fn below_48_28(r: u64, a: u64) -> u64
-    requires { ⌜ Sought 64 28 48 r a ⌝ }
-    ensures { λ x. ⌜ x ≡ a + value 28 r ⌝ }
-{
-    if r < 35960 {
-        return below_32_28(r, below(32, 35960, 28, 48, r, a));
-    }
-    let j = rows(32, 16, 35960, 28, 48, r, a);
-    let t = middle(32, 8, j, 28, r);
-    let j = half(32, 8, j, t, halves_high::upper_28(t), 28, r);
-    let t = middle(32, 4, j, 28, r);
-    let j = half(32, 4, j, t, halves_high::upper_28(t), 28, r);
-    let t = middle(32, 2, j, 28, r);
-    let j = half(32, 2, j, t, halves_high::upper_28(t), 28, r);
-    let t = middle(32, 1, j, 28, r);
-    let j = half(32, 1, j, t, halves_high::upper_28(t), 28, r);
-    let t = 32 + j;
-    let c = halves_high::upper_28(t);
-    let x = with(32, j, t, c, 28, 48, r, a);
-    below_48_27(r - c, x)
-}
-
-fn below_48_29(r: u64, a: u64) -> u64
-    requires { ⌜ Sought 64 29 48 r a ⌝ }
-    ensures { λ x. ⌜ x ≡ a + value 29 r ⌝ }
-{
-    if r < 4960 {
-        return below_32_29(r, below(32, 4960, 29, 48, r, a));
-    }
-    let j = rows(32, 16, 4960, 29, 48, r, a);
-    let t = middle(32, 8, j, 29, r);
-    let j = half(32, 8, j, t, halves_high::upper_29(t), 29, r);
-    let t = middle(32, 4, j, 29, r);
-    let j = half(32, 4, j, t, halves_high::upper_29(t), 29, r);
-    let t = middle(32, 2, j, 29, r);
-    let j = half(32, 2, j, t, halves_high::upper_29(t), 29, r);
-    let t = middle(32, 1, j, 29, r);
-    let j = half(32, 1, j, t, halves_high::upper_29(t), 29, r);
-    let t = 32 + j;
-    let c = halves_high::upper_29(t);
-    let x = with(32, j, t, c, 29, 48, r, a);
-    below_48_28(r - c, x)
-}
-
-fn below_48_30(r: u64, a: u64) -> u64
-    requires { ⌜ Sought 64 30 48 r a ⌝ }
-    ensures { λ x. ⌜ x ≡ a + value 30 r ⌝ }
-{
-    if r < 496 {
-        return below_32_30(r, below(32, 496, 30, 48, r, a));
-    }
-    let j = rows(32, 16, 496, 30, 48, r, a);
-    let t = middle(32, 8, j, 30, r);
-    let j = half(32, 8, j, t, halves_high::upper_30(t), 30, r);
-    let t = middle(32, 4, j, 30, r);
-    let j = half(32, 4, j, t, halves_high::upper_30(t), 30, r);
-    let t = middle(32, 2, j, 30, r);
-    let j = half(32, 2, j, t, halves_high::upper_30(t), 30, r);
-    let t = middle(32, 1, j, 30, r);
-    let j = half(32, 1, j, t, halves_high::upper_30(t), 30, r);
-    let t = 32 + j;
-    let c = halves_high::upper_30(t);
-    let x = with(32, j, t, c, 30, 48, r, a);
-    below_48_29(r - c, x)
-}
-
-fn below_48_31(r: u64, a: u64) -> u64
-    requires { ⌜ Sought 64 31 48 r a ⌝ }
-    ensures { λ x. ⌜ x ≡ a + value 31 r ⌝ }
-{
-    if r < 32 {
-        return below_32_31(r, below(32, 32, 31, 48, r, a));
-    }
-    let j = rows(32, 16, 32, 31, 48, r, a);
-    let t = middle(32, 8, j, 31, r);
-    let j = half(32, 8, j, t, halves_high::upper_31(t), 31, r);
-    let t = middle(32, 4, j, 31, r);
-    let j = half(32, 4, j, t, halves_high::upper_31(t), 31, r);
-    let t = middle(32, 2, j, 31, r);
-    let j = half(32, 2, j, t, halves_high::upper_31(t), 31, r);
-    let t = middle(32, 1, j, 31, r);
-    let j = half(32, 1, j, t, halves_high::upper_31(t), 31, r);
-    let t = 32 + j;
-    let c = halves_high::upper_31(t);
-    let x = with(32, j, t, c, 31, 48, r, a);
-    below_48_30(r - c, x)
-}
-
-fn below_48_32(r: u64, a: u64) -> u64
-    requires { ⌜ Sought 64 32 48 r a ⌝ }
-    ensures { λ x. ⌜ x ≡ a + value 32 r ⌝ }
-{
-    if r < 1 {
-        return below_32_32(r, below(32, 1, 32, 48, r, a));
-    }
-    let j = rows(32, 16, 1, 32, 48, r, a);
-    let t = middle(32, 8, j, 32, r);
-    let j = half(32, 8, j, t, halves_high::upper_32(t), 32, r);
-    let t = middle(32, 4, j, 32, r);
-    let j = half(32, 4, j, t, halves_high::upper_32(t), 32, r);
-    let t = middle(32, 2, j, 32, r);
-    let j = half(32, 2, j, t, halves_high::upper_32(t), 32, r);
-    let t = middle(32, 1, j, 32, r);
-    let j = half(32, 1, j, t, halves_high::upper_32(t), 32, r);
-    let t = 32 + j;
-    let c = halves_high::upper_32(t);
-    let x = with(32, j, t, c, 32, 48, r, a);
-    below_48_31(r - c, x)
-}
-
 fn below_64_2(r: u64, a: u64) -> u64
     requires { ⌜ Sought 64 2 64 r a ⌝ }
     ensures { λ x. ⌜ x ≡ a + value 2 r ⌝ }
 {
     if r < 1128 {
-        return below_48_2(r, below(48, 1128, 2, 64, r, a));
+        return descent_48::below_48_2(r, below(48, 1128, 2, 64, r, a));
     }
     let j = rows(48, 16, 1128, 2, 64, r, a);
     let t = middle(48, 8, j, 2, r);
@@ -1696,7 +44,7 @@ fn below_64_3(r: u64, a: u64) -> u64
     ensures { λ x. ⌜ x ≡ a + value 3 r ⌝ }
 {
     if r < 17296 {
-        return below_48_3(r, below(48, 17296, 3, 64, r, a));
+        return descent_48::below_48_3(r, below(48, 17296, 3, 64, r, a));
     }
     let j = rows(48, 16, 17296, 3, 64, r, a);
     let t = middle(48, 8, j, 3, r);
@@ -1718,7 +66,7 @@ fn below_64_4(r: u64, a: u64) -> u64
     ensures { λ x. ⌜ x ≡ a + value 4 r ⌝ }
 {
     if r < 194580 {
-        return below_48_4(r, below(48, 194580, 4, 64, r, a));
+        return descent_48::below_48_4(r, below(48, 194580, 4, 64, r, a));
     }
     let j = rows(48, 16, 194580, 4, 64, r, a);
     let t = middle(48, 8, j, 4, r);
@@ -1740,7 +88,7 @@ fn below_64_5(r: u64, a: u64) -> u64
     ensures { λ x. ⌜ x ≡ a + value 5 r ⌝ }
 {
     if r < 1712304 {
-        return below_48_5(r, below(48, 1712304, 5, 64, r, a));
+        return descent_48::below_48_5(r, below(48, 1712304, 5, 64, r, a));
     }
     let j = rows(48, 16, 1712304, 5, 64, r, a);
     let t = middle(48, 8, j, 5, r);
@@ -1762,7 +110,7 @@ fn below_64_6(r: u64, a: u64) -> u64
     ensures { λ x. ⌜ x ≡ a + value 6 r ⌝ }
 {
     if r < 12271512 {
-        return below_48_6(r, below(48, 12271512, 6, 64, r, a));
+        return descent_48::below_48_6(r, below(48, 12271512, 6, 64, r, a));
     }
     let j = rows(48, 16, 12271512, 6, 64, r, a);
     let t = middle(48, 8, j, 6, r);
@@ -1784,7 +132,7 @@ fn below_64_7(r: u64, a: u64) -> u64
     ensures { λ x. ⌜ x ≡ a + value 7 r ⌝ }
 {
     if r < 73629072 {
-        return below_48_7(r, below(48, 73629072, 7, 64, r, a));
+        return descent_48::below_48_7(r, below(48, 73629072, 7, 64, r, a));
     }
     let j = rows(48, 16, 73629072, 7, 64, r, a);
     let t = middle(48, 8, j, 7, r);
@@ -1806,7 +154,7 @@ fn below_64_8(r: u64, a: u64) -> u64
     ensures { λ x. ⌜ x ≡ a + value 8 r ⌝ }
 {
     if r < 377348994 {
-        return below_48_8(r, below(48, 377348994, 8, 64, r, a));
+        return descent_48::below_48_8(r, below(48, 377348994, 8, 64, r, a));
     }
     let j = rows(48, 16, 377348994, 8, 64, r, a);
     let t = middle(48, 8, j, 8, r);
@@ -1828,7 +176,7 @@ fn below_64_9(r: u64, a: u64) -> u64
     ensures { λ x. ⌜ x ≡ a + value 9 r ⌝ }
 {
     if r < 1677106640 {
-        return below_48_9(r, below(48, 1677106640, 9, 64, r, a));
+        return descent_48::below_48_9(r, below(48, 1677106640, 9, 64, r, a));
     }
     let j = rows(48, 16, 1677106640, 9, 64, r, a);
     let t = middle(48, 8, j, 9, r);
@@ -1850,7 +198,7 @@ fn below_64_10(r: u64, a: u64) -> u64
     ensures { λ x. ⌜ x ≡ a + value 10 r ⌝ }
 {
     if r < 6540715896 {
-        return below_48_10(r, below(48, 6540715896, 10, 64, r, a));
+        return descent_48::below_48_10(r, below(48, 6540715896, 10, 64, r, a));
     }
     let j = rows(48, 16, 6540715896, 10, 64, r, a);
     let t = middle(48, 8, j, 10, r);
@@ -1872,7 +220,7 @@ fn below_64_11(r: u64, a: u64) -> u64
     ensures { λ x. ⌜ x ≡ a + value 11 r ⌝ }
 {
     if r < 22595200368 {
-        return below_48_11(r, below(48, 22595200368, 11, 64, r, a));
+        return descent_48::below_48_11(r, below(48, 22595200368, 11, 64, r, a));
     }
     let j = rows(48, 16, 22595200368, 11, 64, r, a);
     let t = middle(48, 8, j, 11, r);
@@ -1894,7 +242,7 @@ fn below_64_12(r: u64, a: u64) -> u64
     ensures { λ x. ⌜ x ≡ a + value 12 r ⌝ }
 {
     if r < 69668534468 {
-        return below_48_12(r, below(48, 69668534468, 12, 64, r, a));
+        return descent_48::below_48_12(r, below(48, 69668534468, 12, 64, r, a));
     }
     let j = rows(48, 16, 69668534468, 12, 64, r, a);
     let t = middle(48, 8, j, 12, r);
@@ -1916,7 +264,7 @@ fn below_64_13(r: u64, a: u64) -> u64
     ensures { λ x. ⌜ x ≡ a + value 13 r ⌝ }
 {
     if r < 192928249296 {
-        return below_48_13(r, below(48, 192928249296, 13, 64, r, a));
+        return descent_48::below_48_13(r, below(48, 192928249296, 13, 64, r, a));
     }
     let j = rows(48, 16, 192928249296, 13, 64, r, a);
     let t = middle(48, 8, j, 13, r);
@@ -1938,7 +286,7 @@ fn below_64_14(r: u64, a: u64) -> u64
     ensures { λ x. ⌜ x ≡ a + value 14 r ⌝ }
 {
     if r < 482320623240 {
-        return below_48_14(r, below(48, 482320623240, 14, 64, r, a));
+        return descent_48::below_48_14(r, below(48, 482320623240, 14, 64, r, a));
     }
     let j = rows(48, 16, 482320623240, 14, 64, r, a);
     let t = middle(48, 8, j, 14, r);
@@ -1960,7 +308,7 @@ fn below_64_15(r: u64, a: u64) -> u64
     ensures { λ x. ⌜ x ≡ a + value 15 r ⌝ }
 {
     if r < 1093260079344 {
-        return below_48_15(r, below(48, 1093260079344, 15, 64, r, a));
+        return descent_48::below_48_15(r, below(48, 1093260079344, 15, 64, r, a));
     }
     let j = rows(48, 16, 1093260079344, 15, 64, r, a);
     let t = middle(48, 8, j, 15, r);
@@ -1982,7 +330,7 @@ fn below_64_16(r: u64, a: u64) -> u64
     ensures { λ x. ⌜ x ≡ a + value 16 r ⌝ }
 {
     if r < 2254848913647 {
-        return below_48_16(r, below(48, 2254848913647, 16, 64, r, a));
+        return descent_48::below_48_16(r, below(48, 2254848913647, 16, 64, r, a));
     }
     let j = rows(48, 16, 2254848913647, 16, 64, r, a);
     let t = middle(48, 8, j, 16, r);
@@ -2004,7 +352,7 @@ fn below_64_17(r: u64, a: u64) -> u64
     ensures { λ x. ⌜ x ≡ a + value 17 r ⌝ }
 {
     if r < 4244421484512 {
-        return below_48_17(r, below(48, 4244421484512, 17, 64, r, a));
+        return descent_48::below_48_17(r, below(48, 4244421484512, 17, 64, r, a));
     }
     let j = rows(48, 16, 4244421484512, 17, 64, r, a);
     let t = middle(48, 8, j, 17, r);
@@ -2026,7 +374,7 @@ fn below_64_18(r: u64, a: u64) -> u64
     ensures { λ x. ⌜ x ≡ a + value 18 r ⌝ }
 {
     if r < 7309837001104 {
-        return below_48_18(r, below(48, 7309837001104, 18, 64, r, a));
+        return descent_48::below_48_18(r, below(48, 7309837001104, 18, 64, r, a));
     }
     let j = rows(48, 16, 7309837001104, 18, 64, r, a);
     let t = middle(48, 8, j, 18, r);
@@ -2048,7 +396,7 @@ fn below_64_19(r: u64, a: u64) -> u64
     ensures { λ x. ⌜ x ≡ a + value 19 r ⌝ }
 {
     if r < 11541847896480 {
-        return below_48_19(r, below(48, 11541847896480, 19, 64, r, a));
+        return descent_48::below_48_19(r, below(48, 11541847896480, 19, 64, r, a));
     }
     let j = rows(48, 16, 11541847896480, 19, 64, r, a);
     let t = middle(48, 8, j, 19, r);
@@ -2070,7 +418,7 @@ fn below_64_20(r: u64, a: u64) -> u64
     ensures { λ x. ⌜ x ≡ a + value 20 r ⌝ }
 {
     if r < 16735679449896 {
-        return below_48_20(r, below(48, 16735679449896, 20, 64, r, a));
+        return descent_48::below_48_20(r, below(48, 16735679449896, 20, 64, r, a));
     }
     let j = rows(48, 16, 16735679449896, 20, 64, r, a);
     let t = middle(48, 8, j, 20, r);
@@ -2092,7 +440,7 @@ fn below_64_21(r: u64, a: u64) -> u64
     ensures { λ x. ⌜ x ≡ a + value 21 r ⌝ }
 {
     if r < 22314239266528 {
-        return below_48_21(r, below(48, 22314239266528, 21, 64, r, a));
+        return descent_48::below_48_21(r, below(48, 22314239266528, 21, 64, r, a));
     }
     let j = rows(48, 16, 22314239266528, 21, 64, r, a);
     let t = middle(48, 8, j, 21, r);
@@ -2114,7 +462,7 @@ fn below_64_22(r: u64, a: u64) -> u64
     ensures { λ x. ⌜ x ≡ a + value 22 r ⌝ }
 {
     if r < 27385657281648 {
-        return below_48_22(r, below(48, 27385657281648, 22, 64, r, a));
+        return descent_48::below_48_22(r, below(48, 27385657281648, 22, 64, r, a));
     }
     let j = rows(48, 16, 27385657281648, 22, 64, r, a);
     let t = middle(48, 8, j, 22, r);
@@ -2136,7 +484,7 @@ fn below_64_23(r: u64, a: u64) -> u64
     ensures { λ x. ⌜ x ≡ a + value 23 r ⌝ }
 {
     if r < 30957699535776 {
-        return below_48_23(r, below(48, 30957699535776, 23, 64, r, a));
+        return descent_48::below_48_23(r, below(48, 30957699535776, 23, 64, r, a));
     }
     let j = rows(48, 16, 30957699535776, 23, 64, r, a);
     let t = middle(48, 8, j, 23, r);
@@ -2158,7 +506,7 @@ fn below_64_24(r: u64, a: u64) -> u64
     ensures { λ x. ⌜ x ≡ a + value 24 r ⌝ }
 {
     if r < 32247603683100 {
-        return below_48_24(r, below(48, 32247603683100, 24, 64, r, a));
+        return descent_48::below_48_24(r, below(48, 32247603683100, 24, 64, r, a));
     }
     let j = rows(48, 16, 32247603683100, 24, 64, r, a);
     let t = middle(48, 8, j, 24, r);
@@ -2180,7 +528,7 @@ fn below_64_25(r: u64, a: u64) -> u64
     ensures { λ x. ⌜ x ≡ a + value 25 r ⌝ }
 {
     if r < 30957699535776 {
-        return below_48_25(r, below(48, 30957699535776, 25, 64, r, a));
+        return descent_48::below_48_25(r, below(48, 30957699535776, 25, 64, r, a));
     }
     let j = rows(48, 16, 30957699535776, 25, 64, r, a);
     let t = middle(48, 8, j, 25, r);
@@ -2202,7 +550,7 @@ fn below_64_26(r: u64, a: u64) -> u64
     ensures { λ x. ⌜ x ≡ a + value 26 r ⌝ }
 {
     if r < 27385657281648 {
-        return below_48_26(r, below(48, 27385657281648, 26, 64, r, a));
+        return descent_48::below_48_26(r, below(48, 27385657281648, 26, 64, r, a));
     }
     let j = rows(48, 16, 27385657281648, 26, 64, r, a);
     let t = middle(48, 8, j, 26, r);
@@ -2224,7 +572,7 @@ fn below_64_27(r: u64, a: u64) -> u64
     ensures { λ x. ⌜ x ≡ a + value 27 r ⌝ }
 {
     if r < 22314239266528 {
-        return below_48_27(r, below(48, 22314239266528, 27, 64, r, a));
+        return descent_48::below_48_27(r, below(48, 22314239266528, 27, 64, r, a));
     }
     let j = rows(48, 16, 22314239266528, 27, 64, r, a);
     let t = middle(48, 8, j, 27, r);
@@ -2246,7 +594,7 @@ fn below_64_28(r: u64, a: u64) -> u64
     ensures { λ x. ⌜ x ≡ a + value 28 r ⌝ }
 {
     if r < 16735679449896 {
-        return below_48_28(r, below(48, 16735679449896, 28, 64, r, a));
+        return descent_48::below_48_28(r, below(48, 16735679449896, 28, 64, r, a));
     }
     let j = rows(48, 16, 16735679449896, 28, 64, r, a);
     let t = middle(48, 8, j, 28, r);
@@ -2268,7 +616,7 @@ fn below_64_29(r: u64, a: u64) -> u64
     ensures { λ x. ⌜ x ≡ a + value 29 r ⌝ }
 {
     if r < 11541847896480 {
-        return below_48_29(r, below(48, 11541847896480, 29, 64, r, a));
+        return descent_48::below_48_29(r, below(48, 11541847896480, 29, 64, r, a));
     }
     let j = rows(48, 16, 11541847896480, 29, 64, r, a);
     let t = middle(48, 8, j, 29, r);
@@ -2290,7 +638,7 @@ fn below_64_30(r: u64, a: u64) -> u64
     ensures { λ x. ⌜ x ≡ a + value 30 r ⌝ }
 {
     if r < 7309837001104 {
-        return below_48_30(r, below(48, 7309837001104, 30, 64, r, a));
+        return descent_48::below_48_30(r, below(48, 7309837001104, 30, 64, r, a));
     }
     let j = rows(48, 16, 7309837001104, 30, 64, r, a);
     let t = middle(48, 8, j, 30, r);
@@ -2312,7 +660,7 @@ fn below_64_31(r: u64, a: u64) -> u64
     ensures { λ x. ⌜ x ≡ a + value 31 r ⌝ }
 {
     if r < 4244421484512 {
-        return below_48_31(r, below(48, 4244421484512, 31, 64, r, a));
+        return descent_48::below_48_31(r, below(48, 4244421484512, 31, 64, r, a));
     }
     let j = rows(48, 16, 4244421484512, 31, 64, r, a);
     let t = middle(48, 8, j, 31, r);
@@ -2334,7 +682,7 @@ fn below_64_32(r: u64, a: u64) -> u64
     ensures { λ x. ⌜ x ≡ a + value 32 r ⌝ }
 {
     if r < 2254848913647 {
-        return below_48_32(r, below(48, 2254848913647, 32, 64, r, a));
+        return descent_48::below_48_32(r, below(48, 2254848913647, 32, 64, r, a));
     }
     let j = rows(48, 16, 2254848913647, 32, 64, r, a);
     let t = middle(48, 8, j, 32, r);
@@ -2367,53 +715,53 @@ pub fn set(k: u64, s: u64, r: u64) -> u64
                 }
                 if k < 3 {
                     if s <= 8 {
-                        return ended(below_8_2(r, begun(8, 2, k, s, r)), 2, k, r);
+                        return ended(descent_16::below_8_2(r, begun(8, 2, k, s, r)), 2, k, r);
                     }
                     if s <= 16 {
-                        return ended(below_16_2(r, begun(16, 2, k, s, r)), 2, k, r);
+                        return ended(descent_16::below_16_2(r, begun(16, 2, k, s, r)), 2, k, r);
                     }
                     return ended(below_64_2(r, begun(64, 2, k, s, r)), 2, k, r);
                 }
                 if s <= 8 {
-                    return ended(below_8_3(r, begun(8, 3, k, s, r)), 3, k, r);
+                    return ended(descent_16::below_8_3(r, begun(8, 3, k, s, r)), 3, k, r);
                 }
                 if s <= 16 {
-                    return ended(below_16_3(r, begun(16, 3, k, s, r)), 3, k, r);
+                    return ended(descent_16::below_16_3(r, begun(16, 3, k, s, r)), 3, k, r);
                 }
                 return ended(below_64_3(r, begun(64, 3, k, s, r)), 3, k, r);
             }
             if k < 6 {
                 if k < 5 {
                     if s <= 8 {
-                        return ended(below_8_4(r, begun(8, 4, k, s, r)), 4, k, r);
+                        return ended(descent_16::below_8_4(r, begun(8, 4, k, s, r)), 4, k, r);
                     }
                     if s <= 16 {
-                        return ended(below_16_4(r, begun(16, 4, k, s, r)), 4, k, r);
+                        return ended(descent_16::below_16_4(r, begun(16, 4, k, s, r)), 4, k, r);
                     }
                     return ended(below_64_4(r, begun(64, 4, k, s, r)), 4, k, r);
                 }
                 if s <= 8 {
-                    return ended(below_8_5(r, begun(8, 5, k, s, r)), 5, k, r);
+                    return ended(descent_16::below_8_5(r, begun(8, 5, k, s, r)), 5, k, r);
                 }
                 if s <= 16 {
-                    return ended(below_16_5(r, begun(16, 5, k, s, r)), 5, k, r);
+                    return ended(descent_16::below_16_5(r, begun(16, 5, k, s, r)), 5, k, r);
                 }
                 return ended(below_64_5(r, begun(64, 5, k, s, r)), 5, k, r);
             }
             if k < 7 {
                 if s <= 8 {
-                    return ended(below_8_6(r, begun(8, 6, k, s, r)), 6, k, r);
+                    return ended(descent_16::below_8_6(r, begun(8, 6, k, s, r)), 6, k, r);
                 }
                 if s <= 16 {
-                    return ended(below_16_6(r, begun(16, 6, k, s, r)), 6, k, r);
+                    return ended(descent_16::below_16_6(r, begun(16, 6, k, s, r)), 6, k, r);
                 }
                 return ended(below_64_6(r, begun(64, 6, k, s, r)), 6, k, r);
             }
             if s <= 8 {
-                return ended(below_8_7(r, begun(8, 7, k, s, r)), 7, k, r);
+                return ended(descent_16::below_8_7(r, begun(8, 7, k, s, r)), 7, k, r);
             }
             if s <= 16 {
-                return ended(below_16_7(r, begun(16, 7, k, s, r)), 7, k, r);
+                return ended(descent_16::below_16_7(r, begun(16, 7, k, s, r)), 7, k, r);
             }
             return ended(below_64_7(r, begun(64, 7, k, s, r)), 7, k, r);
         }
@@ -2421,49 +769,49 @@ pub fn set(k: u64, s: u64, r: u64) -> u64
             if k < 10 {
                 if k < 9 {
                     if s <= 8 {
-                        return ended(below_8_8(r, begun(8, 8, k, s, r)), 8, k, r);
+                        return ended(descent_16::below_8_8(r, begun(8, 8, k, s, r)), 8, k, r);
                     }
                     if s <= 16 {
-                        return ended(below_16_8(r, begun(16, 8, k, s, r)), 8, k, r);
+                        return ended(descent_16::below_16_8(r, begun(16, 8, k, s, r)), 8, k, r);
                     }
                     return ended(below_64_8(r, begun(64, 8, k, s, r)), 8, k, r);
                 }
                 if s <= 16 {
-                    return ended(below_16_9(r, begun(16, 9, k, s, r)), 9, k, r);
+                    return ended(descent_16::below_16_9(r, begun(16, 9, k, s, r)), 9, k, r);
                 }
                 return ended(below_64_9(r, begun(64, 9, k, s, r)), 9, k, r);
             }
             if k < 11 {
                 if s <= 16 {
-                    return ended(below_16_10(r, begun(16, 10, k, s, r)), 10, k, r);
+                    return ended(descent_16::below_16_10(r, begun(16, 10, k, s, r)), 10, k, r);
                 }
                 return ended(below_64_10(r, begun(64, 10, k, s, r)), 10, k, r);
             }
             if s <= 16 {
-                return ended(below_16_11(r, begun(16, 11, k, s, r)), 11, k, r);
+                return ended(descent_16::below_16_11(r, begun(16, 11, k, s, r)), 11, k, r);
             }
             return ended(below_64_11(r, begun(64, 11, k, s, r)), 11, k, r);
         }
         if k < 14 {
             if k < 13 {
                 if s <= 16 {
-                    return ended(below_16_12(r, begun(16, 12, k, s, r)), 12, k, r);
+                    return ended(descent_16::below_16_12(r, begun(16, 12, k, s, r)), 12, k, r);
                 }
                 return ended(below_64_12(r, begun(64, 12, k, s, r)), 12, k, r);
             }
             if s <= 16 {
-                return ended(below_16_13(r, begun(16, 13, k, s, r)), 13, k, r);
+                return ended(descent_16::below_16_13(r, begun(16, 13, k, s, r)), 13, k, r);
             }
             return ended(below_64_13(r, begun(64, 13, k, s, r)), 13, k, r);
         }
         if k < 15 {
             if s <= 16 {
-                return ended(below_16_14(r, begun(16, 14, k, s, r)), 14, k, r);
+                return ended(descent_16::below_16_14(r, begun(16, 14, k, s, r)), 14, k, r);
             }
             return ended(below_64_14(r, begun(64, 14, k, s, r)), 14, k, r);
         }
         if s <= 16 {
-            return ended(below_16_15(r, begun(16, 15, k, s, r)), 15, k, r);
+            return ended(descent_16::below_16_15(r, begun(16, 15, k, s, r)), 15, k, r);
         }
         return ended(below_64_15(r, begun(64, 15, k, s, r)), 15, k, r);
     }
@@ -2472,7 +820,7 @@ pub fn set(k: u64, s: u64, r: u64) -> u64
             if k < 18 {
                 if k < 17 {
                     if s <= 16 {
-                        return ended(below_16_16(r, begun(16, 16, k, s, r)), 16, k, r);
+                        return ended(descent_16::below_16_16(r, begun(16, 16, k, s, r)), 16, k, r);
                     }
                     return ended(below_64_16(r, begun(64, 16, k, s, r)), 16, k, r);
                 }
