@@ -11,7 +11,7 @@ use Prim.Native.Nat.{ℕ, _<_}
 use native.Mathlib.Omega.{arith}
 use Rattle.words.specs.declared.Family.{Family}
 use Rattle.answers.specs.declared.Refusal.{Refusal}
-use Rattle.answers.specs.declared.Refusal.the-variants.{TooWide, NotMonotone, NoSuchRank, Last, Repeated, FamilyDiffers, Outside, Shape, TooBig, NotAPermutation, BadImage, NoSuchTable}
+use Rattle.answers.specs.declared.Refusal.the-variants.{TooWide, NotMonotone, NoSuchRank, Last, Repeated, FamilyDiffers, Outside, Shape, TooBig, NotAPermutation, BadImage, NoSuchTable, FramesDiffer, NotFinite}
 use Rattle.answers.specs.declared.Sign.{Sign}
 use Rattle.answers.specs.declared.Sign.the-variants.{Plus, Minus}
 use Rattle.answers.specs.declared.Index.{Index}
@@ -57,6 +57,8 @@ number-positive TooBig = omega arith
 number-positive NotAPermutation = omega arith
 number-positive (BadImage at) = omega arith
 number-positive NoSuchTable = omega arith
+number-positive FramesDiffer = omega arith
+number-positive NotFinite = omega arith
 
 pub no-refusal-is-answered : (e : Refusal) → answered ≡ refusedWith (numberOf e) (carriedBy e) → ⊥
 no-refusal-is-answered e q = omega (arith, ap (λ (s : Status). s .number) q, number-positive e)

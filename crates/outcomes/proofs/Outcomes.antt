@@ -16,7 +16,7 @@ use Rattle.text.specs.declared.Number.{Number}
 use Rattle.text.specs.declared.Number.the-variants as number
 use Rattle.text.specs.Numeral.{Reads}
 use Rattle.answers.specs.declared.Refusal.{Refusal}
-use Rattle.answers.specs.declared.Refusal.the-variants.{TooWide, NotMonotone, NoSuchRank, Last, Repeated, FamilyDiffers, Outside, Shape, TooBig, NotAPermutation, BadImage, NoSuchTable}
+use Rattle.answers.specs.declared.Refusal.the-variants.{TooWide, NotMonotone, NoSuchRank, Last, Repeated, FamilyDiffers, Outside, Shape, TooBig, NotAPermutation, BadImage, NoSuchTable, FramesDiffer, NotFinite}
 use Rattle.answers.specs.declared.Answer.{Answer}
 use Rattle.answers.specs.declared.Answer.the-variants as answer
 use Rattle.answers.specs.declared.Indexed.{Indexed}
@@ -51,7 +51,7 @@ use Rattle.permutation.specs.Record.{verdictSays, signatureSays, Arranges}
 refusalOf : ℕ → ℕ → Refusal
 refusalOf n p =
     getD
-    (TooWide ∷ TooWide ∷ NotMonotone p ∷ NoSuchRank ∷ Last ∷ Repeated ∷ FamilyDiffers ∷ Outside ∷ Shape ∷ TooBig ∷ NotAPermutation ∷ BadImage p ∷ NoSuchTable ∷ [])
+    (TooWide ∷ TooWide ∷ NotMonotone p ∷ NoSuchRank ∷ Last ∷ Repeated ∷ FamilyDiffers ∷ Outside ∷ Shape ∷ TooBig ∷ NotAPermutation ∷ BadImage p ∷ NoSuchTable ∷ FramesDiffer ∷ NotFinite ∷ [])
     n TooWide
 
 refusal-back : (e : Refusal) → refusalOf (numberOf e) (placeOf (carriedBy e)) ≡ e
@@ -68,6 +68,8 @@ refusal-back TooBig = refl
 refusal-back NotAPermutation = refl
 refusal-back (BadImage at) = refl
 refusal-back NoSuchTable = refl
+refusal-back FramesDiffer = refl
+refusal-back NotFinite = refl
 
 pub one-refusal-by-place : (d e : Refusal) → numberOf d ≡ numberOf e → placeOf (carriedBy d) ≡ placeOf (carriedBy e) → d ≡ e
 one-refusal-by-place d e n p = sym (refusal-back d) ∙ ap₂ refusalOf n p ∙ refusal-back e
