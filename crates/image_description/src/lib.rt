@@ -115,17 +115,16 @@ fn word_end(line: &[u8], from: usize) -> usize
     i
 }
 
+// The number of four bytes, the highest first.
+fn four(a: u8, b: u8, c: u8, d: u8) -> u64
+    ensures { λ r. ⌜ r < 4294967296 ⌝ }
+{
+    wide(d) + 256 * (wide(c) + 256 * (wide(b) + 256 * wide(a)))
+}
+
 // The number of eight bytes, the highest first.
 fn highest_first(s: &[u8; 8]) -> u64 {
-    let a = wide(s[0]);
-    let b = wide(s[1]);
-    let c = wide(s[2]);
-    let d = wide(s[3]);
-    let e = wide(s[4]);
-    let f = wide(s[5]);
-    let g = wide(s[6]);
-    let h = wide(s[7]);
-    h + 256 * (g + 256 * (f + 256 * (e + 256 * (d + 256 * (c + 256 * (b + 256 * a))))))
+    four(s[4], s[5], s[6], s[7]) + 4294967296 * four(s[0], s[1], s[2], s[3])
 }
 
 // The number of sixteen hexadecimal digits, the highest first.
@@ -227,7 +226,58 @@ fn open_table(
     }
 }
 
-// The words after `table`, from a place of the line on: a family, a degree, an alphabet and nothing more.
+// The words after the degree of a table, from a place of the line on: an alphabet and nothing more.
+fn take_alphabet(
+    line: &[u8],
+    from: usize,
+    m: Making,
+    f: Family,
+    k: u64,
+    contents: &mut [u8],
+    before: &mut [u64; 64],
+    lines: &mut [u64; 64],
+) -> Making
+    requires { ⌜ from ≤ length (now line) ⌝ }
+{
+    let a = skip(line, from);
+    let b = word_end(line, a);
+    let Number::Is(n) = text::read_number(&line[a..b]) else {
+        return at_fault(m, Wrong::Alphabet, a);
+    };
+    if n > 64 {
+        return at_fault(m, Wrong::Alphabet, a);
+    }
+    let c = skip(line, b);
+    if c < line.len() {
+        return at_fault(m, Wrong::MoreWords, c);
+    }
+    open_table(m, f, k, n, contents, before, lines)
+}
+
+// The words after its family: a degree, and those after it.
+fn take_degree(
+    line: &[u8],
+    from: usize,
+    m: Making,
+    f: Family,
+    contents: &mut [u8],
+    before: &mut [u64; 64],
+    lines: &mut [u64; 64],
+) -> Making
+    requires { ⌜ from ≤ length (now line) ⌝ }
+{
+    let a = skip(line, from);
+    let b = word_end(line, a);
+    let Number::Is(k) = text::read_number(&line[a..b]) else {
+        return at_fault(m, Wrong::Degree, a);
+    };
+    if k > 64 {
+        return at_fault(m, Wrong::Degree, a);
+    }
+    take_alphabet(line, b, m, f, k, contents, before, lines)
+}
+
+// The words after `table`: a family, a degree, an alphabet and nothing more.
 fn take_table(
     line: &[u8],
     from: usize,
@@ -243,27 +293,7 @@ fn take_table(
     let Named::Family(f) = text::family(&line[a..b]) else {
         return at_fault(m, Wrong::Family, a);
     };
-    let c = skip(line, b);
-    let d = word_end(line, c);
-    let Number::Is(k) = text::read_number(&line[c..d]) else {
-        return at_fault(m, Wrong::Degree, c);
-    };
-    if k > 64 {
-        return at_fault(m, Wrong::Degree, c);
-    }
-    let e = skip(line, d);
-    let g = word_end(line, e);
-    let Number::Is(n) = text::read_number(&line[e..g]) else {
-        return at_fault(m, Wrong::Alphabet, e);
-    };
-    if n > 64 {
-        return at_fault(m, Wrong::Alphabet, e);
-    }
-    let h = skip(line, g);
-    if h < line.len() {
-        return at_fault(m, Wrong::MoreWords, h);
-    }
-    open_table(m, f, k, n, contents, before, lines)
+    take_degree(line, b, m, f, contents, before, lines)
 }
 
 // One more entry, the word at a place of the line.
@@ -402,11 +432,8 @@ fn reason(out: &mut [u8], at: usize, wrong: Wrong) -> usize {
 
 // What is wrong, after the line and the column where it stands.
 pub fn put_wrong(out: &mut [u8], at: usize, m: Making) -> usize {
-    let at = text::put(out, at, b"line ");
-    let at = text::put_number(out, at, m.line);
-    let at = text::put(out, at, b", column ");
-    let at = text::put_number(out, at, m.column);
-    let at = text::put(out, at, b": ");
+    let at = phrases::with_number(out, at, b"line ", m.line);
+    let at = phrases::around(out, at, b", column ", m.column, b": ");
     let wrong = m.wrong;
     reason(out, at, wrong)
 }
