@@ -5,22 +5,26 @@
     model.py ask < crates/ask/stdin              the answer of `ask` to each line of the input
     model.py test                                compares the model with words listed one by one, where there are few
 """
+import functools
 import itertools
 import re
+import struct
 import sys
-from math import comb, factorial, prod
+from math import comb, factorial, isfinite, prod
 
 MAX_LINE, MAX_LIST = 262144, 80
 TOO_WIDE, NOT_MONOTONE, NO_SUCH_RANK, LAST, REPEATED = 1, 2, 3, 4, 5
 FAMILY_DIFFERS, OUTSIDE, SHAPE, TOO_BIG, NOT_A_PERMUTATION = 6, 7, 8, 9, 10
-BAD_IMAGE, NO_SUCH_TABLE = 11, 12
+BAD_IMAGE, NO_SUCH_TABLE, FRAMES_DIFFER, NOT_FINITE = 11, 12, 13, 14
 
 
 class Refused(Exception):
-    """A refusal by its number and, for 2 and 11, the place that it carries."""
+    """A refusal by its number and, for 2 and 11, the place that it carries; that of a mass or a join names a frame."""
+
+    frame = None
 
     def __str__(self):
-        return " at ".join(map(str, self.args))
+        return " at ".join(map(str, self.args)) + ("" if self.frame is None else f" frame {self.frame}")
 
 
 def refuse_if(test, number, *place):
@@ -502,6 +506,55 @@ def pieces(given):
     return "open"
 
 
+# ---- the mass of one frame: every step is one operation of Python's floats, which are doubles and round to nearest
+
+def double(bits):
+    return struct.unpack("<d", bits.to_bytes(8, "little"))[0]
+
+
+def spelled(x):
+    """The sixteen digits of a double."""
+    return struct.pack(">d", x).hex()
+
+
+@functools.cache
+def words_of_two(k):
+    """The words of k pressures and temperatures by rank."""
+    return [word_of("allowed", unrank_over("allowed", 2, k, r)[1]) for r in range(k + 1)]
+
+
+def join(pressure_frame, pressure, temperature_frame, temperature):
+    refuse_if(pressure_frame != temperature_frame, FRAMES_DIFFER)
+    return [pressure_frame, spelled(pressure), spelled(temperature)]
+
+
+def mass(image, pressure_frame, pressure, temperature_frame, temperature):
+    join(pressure_frame, pressure, temperature_frame, temperature)
+    rows = image_rows(image)
+    refuse_if(any((NAMES[row["family"]], row["alphabet"]) != ("allowed", 2) for row in rows), OUTSIDE)
+    readings, coefficients, total = (pressure, temperature), [], 0.0
+    for row in sorted(rows, key=lambda row: row["degree"]):
+        for r, word in enumerate(words_of_two(row["degree"])):
+            at = row["offset"] + 8 * r
+            coefficients.append(double(int.from_bytes(image[at:at + 8], "little")))
+            monomial = 1.0
+            for symbol in word:
+                monomial = monomial * readings[symbol]
+            product = coefficients[-1] * monomial
+            total = total + product
+    refuse_if(not all(map(isfinite, [*readings, *coefficients, total])), NOT_FINITE)
+    return spelled(total)
+
+
+def in_frame(call, *given):
+    """A call whose refusal names the frame of the pressure, which is then that of both readings or the first of the two that differ."""
+    try:
+        return call(*given)
+    except Refused as e:
+        e.frame = given[-4]
+        raise
+
+
 # ---- derivatives: every term hands its coefficient, times the multiplicity of s, to the word that it leaves when an s is taken out
 
 def derive(room, n, k, s, table):
@@ -589,7 +642,7 @@ def lex_converted(room, family, n, k, body, back):
 
 
 # ---- the requests: a pattern of the words after the verb (F a family, n a number, * a list, Z one of signed numbers, P a permutation,
-# B bytes, X pieces, / itself), and the answer
+# B bytes, D a float, X pieces, / itself), and the answer
 
 
 REQUESTS = {
@@ -649,6 +702,8 @@ REQUESTS = {
     "recordrow": ("n B F n", lambda room, p, b, f, k: by_record(p, image_row, b, f, k)),
     "recordlookup": ("n B F n n", lambda room, p, b, *x: by_record(p, image_lookup, b, x)),
     "pieces": ("X", lambda room, given: pieces(given)),
+    "join": ("n D n D", lambda room, *x: in_frame(join, *x)),
+    "mass": ("B n D n D", lambda room, *x: in_frame(mass, *x)),
     "derive": ("n n n / Z", lambda room, n, k, s, table: derive(room, n, k, s, table)),
     "lexrank": ("F n *", lambda room, f, n, w: lex_rank(f, n, w)),
     "lexunrank": ("F n n n", lambda room, f, n, k, r: lex_unrank(room, f, n, k, r)),
@@ -675,6 +730,12 @@ def bytes_of(word):
     if word != "-" and not re.fullmatch("([0-9a-f]{2})+", word):
         raise Bad
     return b"" if word == "-" else bytes.fromhex(word)
+
+
+def float_of(word):
+    if not re.fullmatch("[0-9a-f]{16}", word):
+        raise Bad
+    return double(int(word, 16))
 
 
 def signed(word):
@@ -707,7 +768,8 @@ def arguments(pattern, words):
             return taken + [[w if w == "end" else bytes_of(w) for w in words]]
         if part == "F" and words[0] not in ("forbidden", "allowed") or part == "/" and words[0] != "/":
             raise Bad
-        value = words[0] if part == "F" else number(words[0]) if part in "ns" else bytes_of(words[0]) if part == "B" else None
+        reads = {"F": str, "n": number, "s": number, "B": bytes_of, "D": float_of, "/": str}
+        value = reads[part](words[0])
         if part == "s" and value == 0:
             raise Bad
         taken += [value] if part != "/" else []
@@ -813,6 +875,7 @@ def test():
             if radices == radices[:1] * 3:
                 assert digit_word(radices[0], digits[::-1]) == [3, x] and digits_of(radices[0], 3, x) == list(digits[::-1])
     test_images()
+    test_masses()
 
 
 # Images that are short to write, with what comes of them: the readings of 02 in the order of the fields.
@@ -846,6 +909,49 @@ def test_images():
     ]:
         assert ask(f"imagelookup {image} {term}") == ask(f"recordlookup 0 {image} {term}") == says
         assert ask(f"recordlookup 4 {image} {term}") == "refused 7"
+
+
+# Surfaces that tell the sequence of 02 from one that is near it: the tables by degree, the readings, the digits of the mass, those of the slip, and the slip.
+MASSES = [
+    ({0: [1.0], 1: [0.1, 0.0]}, 1.3, 0.1, "3ff2147ae147ae14", "3ff2147ae147ae15"),  # a product and a sum rounded as one
+    ({0: [0.1], 1: [0.2, 0.3]}, 0.1, 0.7, "3fd51eb851eb851f", "3fd51eb851eb851e"),  # degrees falling
+    ({2: [0.1, 0.0, 0.0]}, 1 / 3, 0.1, "3f86c16c16c16c17", "3f86c16c16c16c16"),  # the coefficient multiplied in first
+    ({3: [0.0, 0.1, 0.2, 0.0]}, 0.1, 1.3, "3fa1f8a0902de00e", "3fa1f8a0902de00f"),  # symbols falling
+    ({4: [0.0, 0.1, 0.2, 0.3, 0.0]}, 0.1, 0.7, "3f87396d0917d6b6", "3f87396d0917d6b5"),  # two powers multiplied
+]
+
+
+def surface(tables):
+    """The image of a surface: its tables by degree, in the order in which they are given."""
+    contents, bodies, end = len(tables).to_bytes(4, "little"), b"", 4 + 12 * len(tables)
+    for k, entries in tables.items():
+        contents += bytes([1, k, 2, 0]) + (end + len(bodies)).to_bytes(4, "little") + len(entries).to_bytes(4, "little")
+        bodies += struct.pack(f"<{len(entries)}d", *entries)
+    return contents + bodies
+
+
+def asked_mass(tables, p, t, frames=(4, 4)):
+    return f"mass {surface(tables).hex()} {frames[0]} {spelled(p)} {frames[1]} {spelled(t)}"
+
+
+def test_masses():
+    for tables, p, t, digits, slip in MASSES:
+        backwards = dict(reversed(tables.items()))
+        assert ask(asked_mass(tables, p, t)) == ask(asked_mass(backwards, p, t)) == digits != slip
+    inf, nan, constant = float("inf"), float("nan"), {0: [1.0]}
+    for request, says in [
+        (asked_mass(constant, 1e200, 1e200), spelled(1.0)), (asked_mass({0: [-0.0]}, -0.0, 2.0), spelled(0.0)), (asked_mass({0: [-2.0]}, 1.0, 1.0), spelled(-2.0)),
+        (asked_mass({0: [5e-324]}, 1.0, 1.0), "0000000000000001"), (asked_mass({1: [5e-324, 0.0]}, 0.5, 1.0), "0000000000000000"),
+        (asked_mass({**constant, 2: [0.0, 0.0, 0.0]}, 1e200, 1e200), "refused 14 frame 4"), (asked_mass(constant, 1.0, inf), "refused 14 frame 4"),
+        (asked_mass(constant, nan, 1.0), "refused 14 frame 4"), (asked_mass({0: [inf]}, 1.0, 1.0), "refused 14 frame 4"),
+        (asked_mass({1: [inf, 0.0]}, 0.0, 1.0), "refused 14 frame 4"), (asked_mass({0: [1.7e308], 1: [1.7e308, 0.0]}, 1.0, 1.0), "refused 14 frame 4"),
+        (asked_mass(constant, nan, 1.0, (4, 5)), "refused 13 frame 4"), (asked_mass(constant, nan, 1.0, (0, 2**64 - 1)), "refused 13 frame 0"),
+        ("mass - 4 7ff8000000000000 4 3ff0000000000000", "refused 11 at 0 frame 4"), ("mass - 4 7ff8000000000000 5 3ff0000000000000", "refused 13 frame 4"),
+        (f"mass {SMALLEST} 4 7ff8000000000000 4 3ff0000000000000", "refused 7 frame 4"),
+        ("join 1 7ff8000000000000 1 4000000000000000", "1 7ff8000000000000 4000000000000000"), ("join 1 7ff8000000000000 2 4000000000000000", "refused 13 frame 1"),
+        ("join 1 3FF0000000000000 1 4000000000000000", "bad line"), ("join 1 3ff000000000000 1 4000000000000000", "bad line"),
+    ]:
+        assert ask(request) == says
 
 
 def main():
