@@ -4,7 +4,7 @@
  * The source of every function below is proved to do what is said here, for all inputs. docs/RULES.md has the same rules with more
  * examples, docs/PROMISES.md says what the proofs rest on. Link with libgudrenoss.a, which is for x86-64 Linux and needs nothing but
  * memcpy and memset. Sections: one rule, words, pointers, version, refusals, then the functions: terms, signed operations, sets,
- * permutations, shapes, digit words, exponents, images of coefficient tables, images in pieces, derivatives, old tables.
+ * permutations, shapes, digit words, exponents, images of coefficient tables, images in pieces, the mass of one frame, derivatives, old tables.
  *
  * ONE RULE
  *
@@ -12,7 +12,8 @@
  * reason why there is none; its place, at, is 0 except where a check below says what it is. The results go to places of the
  * caller's, which are the last parameters. They are written only on an answer: after a refusal every place and every buffer holds
  * what it held. The checks run in the order in which they are listed, the first that fails gives the number, and nothing else is
- * refused. No function has a precondition on its numbers: any value may be passed.
+ * refused. No function has a precondition on its numbers: any value may be passed. The two functions on a frame return a
+ * gudrenoss_frame_refusal, which has the number of the frame besides.
  *
  *     uint64_t rank;
  *     gudrenoss_refusal refusal = gudrenoss_rank(true, word, 2, &rank);
@@ -120,7 +121,9 @@ enum gudrenoss_number {
     GUDRENOSS_TOO_BIG = 9,            /* the number to be stated is 2^64 or more, a signed one outside 64 bits */
     GUDRENOSS_NOT_A_PERMUTATION = 10, /* the entries are no bijection of 0 .. len - 1, or one past the length is not zero */
     GUDRENOSS_BAD_IMAGE = 11,         /* a field of the image is wrong, it ends early or has bytes left over; at tells where */
-    GUDRENOSS_NO_SUCH_TABLE = 12      /* the image has no table of that family and degree */
+    GUDRENOSS_NO_SUCH_TABLE = 12,     /* the image has no table of that family and degree */
+    GUDRENOSS_FRAME = 13,             /* the pressure and the temperature are of different frames */
+    GUDRENOSS_NOT_FINITE = 14         /* a reading, a coefficient or the mass is infinite or no number */
 };
 
 /* What the number of a refusal means, in a few words. It stands here and not in the library. */
@@ -140,6 +143,8 @@ static inline const char *gudrenoss_refusal_text(uint64_t number)
     case GUDRENOSS_NOT_A_PERMUTATION: return "the entries are no permutation";
     case GUDRENOSS_BAD_IMAGE: return "the image is bad";
     case GUDRENOSS_NO_SUCH_TABLE: return "the image has no such table";
+    case GUDRENOSS_FRAME: return "the readings are of different frames";
+    case GUDRENOSS_NOT_FINITE: return "a reading, a coefficient or the mass is not finite";
     default: return "no function gives this number";
     }
 }
@@ -646,6 +651,43 @@ gudrenoss_refusal gudrenoss_pieces_end(uint8_t bytes[772], uint64_t *seen, uint6
  *   11 it is bad; at: as gudrenoss_image_check says it
  *   *still: whether more may come;  *tables: how many tables it has, 0 while more may come */
 GUDRENOSS_MUST_USE gudrenoss_refusal gudrenoss_pieces_verdict(uint64_t state, uint64_t at, bool *still, uint64_t *tables);
+
+/* ---- The mass of one frame ---------------------------------------------------------------------------------------------------- */
+
+/* A reading is a double with the number of the frame in which it was taken, any numbers. A surface is an image whose tables are all Allowed over
+ * the alphabet 2, with 0 for the pressure and 1 for the temperature; an entry is the 8 bytes of a double. The mass is a sum that starts at
+ * +0.0: degree by degree from 0 up, term by term in order of rank, the coefficient times the monomial is added to it, and a monomial is 1.0
+ * multiplied by its readings one after the other, the pressures first. Each of these operations is rounded by itself, to nearest and ties to
+ * even, as IEEE 754 says; none is left out, none joined with another, and a degree that has no table adds nothing. The bits of the mass
+ * are those of this sequence.
+ *
+ * These two functions ask of the processor what a C program starts with: rounding to nearest, subnormal numbers kept (in MXCSR neither
+ * flush-to-zero nor denormals-are-zero), exceptions masked. The compiler flag -ffast-math may change that when it links a program. */
+
+/* What a function on a frame returns, by value. */
+typedef struct gudrenoss_frame_refusal {
+    uint64_t number; /* one of the numbers above; 0 is an answer */
+    uint64_t at;     /* for 11 the offset of the first wrong field of the image; otherwise 0 */
+    uint64_t frame;  /* the frame that is refused: that of the pressure; 0 for an answer */
+} gudrenoss_frame_refusal;
+
+/* One pressure and one temperature as a sample of one frame. The readings may be anything, also infinite or no number.
+ *   13 the two frames differ
+ *   *frame: the frame of both;  *sample_pressure, *sample_temperature: the readings */
+GUDRENOSS_MUST_USE gudrenoss_frame_refusal gudrenoss_join(
+    uint64_t pressure_frame, double pressure, uint64_t temperature_frame, double temperature, uint64_t *frame, double *sample_pressure,
+    double *sample_temperature);
+
+/* The mass of one frame by a surface.
+ *   13 the two frames differ
+ *   11 the image's check
+ *   7  a table is not Allowed, or its alphabet is not 2
+ *   14 a reading, a coefficient or the mass is infinite or no number
+ *   *mass: the mass, a finite number and never -0.0, in the unit of the coefficients
+ * Of the surface 2.0 + 0.5 p - 0.25 t, at pressure 8.0 and temperature 2.0, it is 5.5. */
+GUDRENOSS_MUST_USE gudrenoss_frame_refusal gudrenoss_mass(
+    const uint8_t *image, size_t image_len, uint64_t pressure_frame, double pressure, uint64_t temperature_frame, double temperature,
+    double *mass);
 
 /* ---- Derivatives ------------------------------------------------------------------------------------------------------------
  * A surface of degree k over n quantities is a table of signed coefficients, one for each Allowed word of k symbols below n, in rank

@@ -4,5 +4,6 @@
 #include <stddef.h>
 int memcmp(const void *a, const void *b, size_t len);
 void *memcpy(void *to, const void *from, size_t len);
+int strcmp(const char *a, const char *b);
 void *memset(void *to, int byte, size_t len);
 #endif

@@ -273,10 +273,10 @@ static bool same_text(const char *a, const char *b)
 /* Every number has a text of its own, and one that no function gives has another. */
 static void test_texts(void)
 {
-    for (uint64_t i = 0; i <= 13; i++)
+    for (uint64_t i = 0; i <= 15; i++)
         for (uint64_t j = 0; j < i; j++)
             check(__LINE__, !same_text(gudrenoss_refusal_text(i), gudrenoss_refusal_text(j)), "two numbers have one text");
-    check(__LINE__, same_text(gudrenoss_refusal_text(13), gudrenoss_refusal_text(top)), "the text of no number");
+    check(__LINE__, same_text(gudrenoss_refusal_text(15), gudrenoss_refusal_text(top)), "the text of no number");
     check(__LINE__, same_text(gudrenoss_refusal_text(GUDRENOSS_LAST), "there is no next word"), "the text of a number");
 }
 

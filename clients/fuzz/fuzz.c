@@ -1,9 +1,11 @@
-/* fuzz CALLS [SEED]: calls every function of the library with structured and random values, and compares what it gives back, every
+/* fuzz CALLS [SEED [NAME]]: calls every function of the library with structured and random values, and compares what it gives back, every
  * place that it may write, every place around those, and every list that it reads with the model. It prints for each function how
- * many calls were answers and how many refusals, by number; its last line is 'N calls, 0 broken', and its exit status then 0. */
+ * many calls were answers and how many refusals, by number; its last line is 'N calls, 0 broken', and its exit status then 0. With a
+ * name all calls are of that one function. */
 #include "model.h"
 
 #include <stdio.h>
+#include <string.h>
 
 /* ---- Random numbers (splitmix64) -------------------------------------------------------------------------------------------- */
 
@@ -1131,12 +1133,109 @@ static struct outcome call_pieces(void)
     return (struct outcome){{verdict.refusal, verdict.at}, held(verdict, good)};
 }
 
+/* ---- The mass of one frame -------------------------------------------------------------------------------------------------- */
+
+/* A double: mostly a plain reading, sometimes one at the ends of what a double is, or any bits. */
+static uint64_t real(void)
+{
+    switch (below(16)) {
+    case 0: return any();
+    case 1: return (uint64_t)below(2) << 63 | any() >> (12 + below(52));
+    case 2: return (uint64_t)below(2) << 63 | below(2047) << 52;
+    case 3: return (uint64_t)below(2) << 63 | ((UINT64_C(0x7ff) << 52) - below(3));
+    case 4: return (uint64_t)below(2) << 63 | UINT64_C(0x7ff) << 52 | (below(2) ? 0 : any() >> 12);
+    case 5: return (uint64_t)below(2) << 63;
+    default: return (uint64_t)below(2) << 63 | (1023 - 4 + below(8)) << 52 | (below(4) ? any() >> 12 : 0);
+    }
+}
+
+/* A surface: Allowed tables over 2 of any degrees, in any order; their entries are mostly finite. */
+static void put_surface(void)
+{
+    uint64_t degrees[64], most_degree = below(16) == 0 ? 64 : below(4) == 0 ? 12 : 6, tables = 1 + below(below(4) ? most_degree : 3), end = 4 + 12 * tables;
+    bool wild = below(8) == 0;
+    for (uint64_t k = 0; k < 64; k++)
+        degrees[k] = k;
+    shuffle(degrees, (size_t)most_degree);
+    for (size_t i = 0; i < tables; i++) {
+        uint8_t *row = bytes_at(&image) + 4 + 12 * i;
+        put_number(row, 1 + 256 * degrees[i] + 2 * 65536, 4);
+        put_number(row + 4, end, 4);
+        put_number(row + 8, degrees[i] + 1, 4);
+        for (uint64_t r = 0; r <= degrees[i]; r++, end += 8)
+            put_number(bytes_at(&image) + end, wild ? real() : (uint64_t)below(2) << 63 | (1023 - 4 + below(8)) << 52 | any() >> 12, 8);
+    }
+    put_number(bytes_at(&image), tables, 4);
+    image.len = (size_t)end;
+}
+
+/* A double between guards. */
+struct real_place {
+    uint64_t low;
+    double value;
+    uint64_t high;
+};
+
+/* The bits of what such a place holds, or 1 more than they should be if a guard has changed. A NaN where one is wanted is that one. */
+static uint64_t real_bits(const struct real_place *p, uint64_t wanted)
+{
+    uint64_t held_bits = model_bits(p->value), infinite = UINT64_C(0x7ff) << 52, no_sign = UINT64_MAX >> 1;
+    bool both = (held_bits & no_sign) > infinite && (wanted & no_sign) > infinite;
+    return p->low != low_guard || p->high != high_guard ? wanted + 1 : both ? wanted : held_bits;
+}
+
+/* What a function on a frame gave back, where it names the frame that the model names. */
+static struct outcome framed(gudrenoss_frame_refusal back, struct answer a, bool good)
+{
+    return (struct outcome){{back.number, back.at}, held(a, good && back.frame == a.frame)};
+}
+
+static void some_frames(uint64_t frames[2])
+{
+    frames[0] = below(4) ? below(1000) : number(64);
+    frames[1] = below(12) ? frames[0] : below(2) ? frames[0] ^ 1 : number(64);
+}
+
+static struct outcome call_join(void)
+{
+    uint64_t frames[2], p = real(), t = real();
+    some_frames(frames);
+    fresh(0);
+    struct real_place first = {low_guard, model_double(value[1].value), high_guard}, second = {low_guard, model_double(value[2].value), high_guard};
+    ready();
+    gudrenoss_frame_refusal back = gudrenoss_join(frames[0], model_double(p), frames[1], model_double(t), &value[0].value, &first.value, &second.value);
+    struct answer a = model_join(frames[0], model_double(p), frames[1], model_double(t));
+    value[1].value = real_bits(&first, a.refusal ? value_before[1] : a.value[1]);
+    value[2].value = real_bits(&second, a.refusal ? value_before[2] : a.value[2]);
+    return framed(back, a, true);
+}
+
+static struct outcome call_mass(void)
+{
+    uint64_t frames[2], p = real(), t = real();
+    some_frames(frames);
+    if (below(24))
+        put_surface();
+    else
+        put_image();
+    if (below(12) == 0)
+        damage();
+    fresh(0);
+    struct real_place mass = {low_guard, model_double(value[0].value), high_guard};
+    ready();
+    remember_bytes(&image);
+    gudrenoss_frame_refusal back = gudrenoss_mass(pass_bytes(&image), image.len, frames[0], model_double(p), frames[1], model_double(t), &mass.value);
+    struct answer a = model_mass(bytes_at(&image), image.len, frames[0], model_double(p), frames[1], model_double(t));
+    value[0].value = real_bits(&mass, a.refusal ? value_before[0] : a.value[0]);
+    return framed(back, a, kept_bytes(&image, 0));
+}
+
 /* ---- The run ---------------------------------------------------------------------------------------------------------------- */
 
 struct target {
     const char *name;
     struct outcome (*call)(void);
-    uint64_t given[13], broken; /* how often each refusal was given, 0 for an answer */
+    uint64_t given[15], broken; /* how often each refusal was given, 0 for an answer */
 };
 
 #define TARGET(name) {#name, call_##name, {0}, 0}
@@ -1157,6 +1256,7 @@ static struct target targets[] = {
     TARGET(derivative),
     TARGET(lex_rank), TARGET(lex_unrank), TARGET(lex_successor), TARGET(lex_to_colex), TARGET(lex_from_colex),
     TARGET(image_check), TARGET(image_row), TARGET(image_lookup), TARGET(image_at), TARGET(image_write), TARGET(pieces),
+    TARGET(join), TARGET(mass),
 };
 
 /* The decimal number in text, or 0 where it is none. */
@@ -1196,30 +1296,39 @@ static void run(struct target *t, uint64_t seed)
 static void print_target(const struct target *t)
 {
     uint64_t refusals = 0;
-    for (int i = 1; i <= 12; i++)
+    for (int i = 1; i <= 14; i++)
         refusals += t->given[i];
     printf("%-22s %9llu calls %9llu answers %9llu refusals ", t->name,
         (unsigned long long)(t->given[0] + refusals + t->broken), (unsigned long long)t->given[0],
         (unsigned long long)refusals);
-    for (int i = 1; i <= 12; i++)
+    for (int i = 1; i <= 14; i++)
         if (t->given[i] > 0)
             printf(" %d: %llu", i, (unsigned long long)t->given[i]);
     printf("\n");
 }
 
+/* The place of the function with that name, or one past the last. */
+static size_t called(const char *name)
+{
+    size_t i = 0;
+    while (i < sizeof targets / sizeof *targets && strcmp(targets[i].name, name) != 0)
+        i++;
+    return i;
+}
+
 int main(int argc, char **argv)
 {
     uint64_t calls = argc > 1 ? parse(argv[1]) : 100000, seed = argc > 2 ? parse(argv[2]) : 1, broken = 0;
-    const size_t many = sizeof targets / sizeof *targets;
-    if (argc > 3 || calls == 0) {
-        printf("usage: fuzz CALLS [SEED]\n");
+    const size_t all = sizeof targets / sizeof *targets, first = argc > 3 ? called(argv[3]) : 0, many = argc > 3 ? 1 : all;
+    if (argc > 4 || calls == 0 || first == all) {
+        printf("usage: fuzz CALLS [SEED [NAME]]\n");
         return 2;
     }
     for (uint64_t i = 0; i < calls; i++) {
         state = seed + i;
-        run(&targets[i % many], any());
+        run(&targets[first + i % many], any());
     }
-    for (size_t i = 0; i < many; i++) {
+    for (size_t i = first; i < first + many; i++) {
         print_target(&targets[i]);
         broken += targets[i].broken;
     }

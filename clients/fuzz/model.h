@@ -5,9 +5,10 @@
 
 #include <gudrenoss.h>
 
-/* What a call must come to: the refusal and the place that it tells, or what its places then hold, in the order of the parameters. */
+/* What a call must come to: the refusal, the place and the frame that it tells, or what its places then hold, in the order of the parameters. A
+ * double stands as its bits. */
 struct answer {
-    uint64_t refusal, at;
+    uint64_t refusal, at, frame;
     bool has_flag, flag;
     size_t values;
     uint64_t value[5];
@@ -85,6 +86,12 @@ struct answer model_image_at(const uint8_t *image, size_t len, uint64_t offset, 
 struct answer model_image_write(
     const uint8_t *contents, size_t contents_len, const uint8_t *bodies, size_t bodies_len, uint8_t *joined, size_t room);
 bool model_image_settled(const uint8_t *image, size_t len);
+
+uint64_t model_bits(double x);
+double model_double(uint64_t bits);
+struct answer model_join(uint64_t pressure_frame, double pressure, uint64_t temperature_frame, double temperature);
+struct answer model_mass(const uint8_t *image, size_t len, uint64_t pressure_frame, double pressure, uint64_t temperature_frame, double temperature);
+
 struct answer model_derivative(uint64_t n, uint64_t k, uint64_t s, const int64_t *table, size_t len, size_t room);
 /* The bodies have entries that are whole numbers, and bytes of them are lent. */
 struct answer model_lex_rank(bool allowed, uint64_t n, const uint64_t *word, size_t len);

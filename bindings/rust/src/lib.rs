@@ -14,6 +14,7 @@
 //! | [`Composition`] | a list of exponents |
 //! | [`derivative`] | the derivative of a surface by one of its quantities |
 //! | [`Image`], [`Pieces`] | an image of coefficient tables that is lent; the check of one that comes in pieces |
+//! | [`Surface`], [`Reading`], [`join`] | the mass of one frame by a surface of pressure and temperature |
 //!
 //! The names are those of the Rust crate `multiindex` wherever the calls are the same.
 //!
@@ -39,6 +40,7 @@ mod composition;
 mod derivative;
 mod image;
 mod lexicographic;
+mod mass;
 mod monotone;
 mod permutation;
 mod refusal;
@@ -54,6 +56,7 @@ pub use combination::{Combination, Members};
 pub use composition::Composition;
 pub use derivative::derivative;
 pub use image::{Image, Pieces, Table, Tables};
+pub use mass::{join, FrameRefusal, Reading, Sample, Surface};
 pub use monotone::{MonoIndex, MonoIndices, Repetition};
 pub use permutation::Permutation;
 pub use refusal::Refusal;

@@ -36,6 +36,10 @@ pub enum Refusal {
     },
     /// The image is good, and has no table of that family and degree.
     NoSuchTable,
+    /// The pressure and the temperature are of different frames.
+    Frame,
+    /// A reading, a coefficient or the mass is infinite or no number.
+    NotFinite,
 }
 
 impl Refusal {
@@ -62,12 +66,14 @@ impl Refusal {
             10 => Refusal::NotAPermutation,
             11 => Refusal::BadImage { at },
             12 => Refusal::NoSuchTable,
+            13 => Refusal::Frame,
+            14 => Refusal::NotFinite,
             _ => return None,
         };
         (refusal.at() == at).then_some(refusal)
     }
 
-    /// Its number in `docs/RULES.md` and `include/gudrenoss.h`, from 1 to 12.
+    /// Its number in `docs/RULES.md` and `include/gudrenoss.h`, from 1 to 14.
     #[must_use]
     pub fn number(self) -> u64 {
         match self {
@@ -83,6 +89,8 @@ impl Refusal {
             Refusal::NotAPermutation => 10,
             Refusal::BadImage { .. } => 11,
             Refusal::NoSuchTable => 12,
+            Refusal::Frame => 13,
+            Refusal::NotFinite => 14,
         }
     }
 
@@ -121,6 +129,8 @@ impl fmt::Display for Refusal {
             Refusal::NotAPermutation => "the entries are no permutation",
             Refusal::BadImage { at } => return write!(f, "refused {} at {at}: the image is bad", self.number()),
             Refusal::NoSuchTable => "the image has no such table",
+            Refusal::Frame => "the readings are of different frames",
+            Refusal::NotFinite => "a reading, a coefficient or the mass is not finite",
         };
         write!(f, "refused {}: {reason}", self.number())
     }
@@ -137,7 +147,7 @@ mod tests {
 
     #[test]
     fn parts_lead_back() {
-        for number in 1..=12 {
+        for number in 1..=14 {
             let tells = number == 2 || number == 11;
             for at in [0, 1, 63, u64::MAX] {
                 let Some(refusal) = Refusal::from_parts(number, at) else {
@@ -151,7 +161,7 @@ mod tests {
                 assert!(refusal.to_string().starts_with(&format!("refused {number}{place}: ")));
             }
         }
-        assert_eq!((Refusal::from_parts(0, 0), Refusal::from_parts(13, 0)), (None, None));
+        assert_eq!((Refusal::from_parts(0, 0), Refusal::from_parts(15, 0)), (None, None));
         assert_eq!(Refusal::judge(Status { number: 0, at: 0 }), Ok(()));
     }
 }

@@ -19,6 +19,16 @@ pub struct Status {
     pub at: u64,
 }
 
+/// What the functions on a frame give back, as C has it: the same, and the frame that a refusal names.
+#[repr(C)]
+#[derive(Clone, Copy)]
+#[must_use]
+pub struct FrameStatus {
+    pub number: u64,
+    pub at: u64,
+    pub frame: u64,
+}
+
 /// The record of a permutation, as C has it. It is lent, and given, as its entries and its length.
 #[repr(C)]
 #[derive(Clone, Copy)]
@@ -134,6 +144,16 @@ unsafe extern "C" {
     ) -> Status;
     pub safe fn gudrenoss_digits_delete(radix: u64, degree: u64, rank: u64, p: u64, symbol: &mut u64, rest: &mut u64) -> Status;
 
+    pub safe fn gudrenoss_join(
+        pressure_frame: u64,
+        pressure: f64,
+        temperature_frame: u64,
+        temperature: f64,
+        frame: &mut u64,
+        sample_pressure: &mut f64,
+        sample_temperature: &mut f64,
+    ) -> FrameStatus;
+
     pub safe fn gudrenoss_pieces_start(bytes: &mut [u8; 772], seen: &mut u64, state: &mut u64, at: &mut u64) -> Status;
     pub safe fn gudrenoss_pieces_end(bytes: &mut [u8; 772], seen: &mut u64, state: &mut u64, at: &mut u64) -> Status;
     pub safe fn gudrenoss_pieces_verdict(state: u64, at: u64, still: &mut bool, tables: &mut u64) -> Status;
@@ -205,6 +225,30 @@ with_slices! {
     fn gudrenoss_image_at([image: u8], alphabet: u64, offset: u64, entries: u64, allowed: bool, n: u64, bits: u64, coefficient: &mut u64);
     fn gudrenoss_image_write([contents: u8], [bodies: u8], {image: u8}, written: &mut u64);
     fn gudrenoss_pieces_feed(bytes: &mut [u8; 772], seen: &mut u64, state: &mut u64, at: &mut u64, [piece: u8]);
+}
+
+/// The one function with a slice that names a frame.
+pub fn gudrenoss_mass(
+    image: &[u8],
+    pressure_frame: u64,
+    pressure: f64,
+    temperature_frame: u64,
+    temperature: f64,
+    mass: &mut f64,
+) -> FrameStatus {
+    unsafe extern "C" {
+        fn gudrenoss_mass(
+            image: *const u8,
+            _: usize,
+            pressure_frame: u64,
+            pressure: f64,
+            temperature_frame: u64,
+            temperature: f64,
+            mass: &mut f64,
+        ) -> FrameStatus;
+    }
+    // SAFETY: the pointer comes from a slice of the length that is passed with it.
+    unsafe { gudrenoss_mass(image.as_ptr(), image.len(), pressure_frame, pressure, temperature_frame, temperature, mass) }
 }
 
 /// The number that a call writes.
