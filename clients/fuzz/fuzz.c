@@ -1135,24 +1135,34 @@ static struct outcome call_pieces(void)
 
 /* ---- The mass of one frame -------------------------------------------------------------------------------------------------- */
 
+/* A double of plain size: a sign, an exponent near that of 1, and most often any digits. Numbers are drawn one at a time, in an order that C does not leave open. */
+static uint64_t plain_real(uint64_t digits)
+{
+    uint64_t minus = below(2) << 63, exponent = (1023 - 4 + below(8)) << 52;
+    return minus | exponent | digits;
+}
+
 /* A double: mostly a plain reading, sometimes one at the ends of what a double is, or any bits. */
 static uint64_t real(void)
 {
-    switch (below(16)) {
+    const uint64_t infinite = UINT64_C(0x7ff) << 52;
+    uint64_t kind = below(16), minus = below(2) << 63, digits = any() >> 12, few = below(52), exponent = below(2047) << 52;
+    switch (kind) {
     case 0: return any();
-    case 1: return (uint64_t)below(2) << 63 | any() >> (12 + below(52));
-    case 2: return (uint64_t)below(2) << 63 | below(2047) << 52;
-    case 3: return (uint64_t)below(2) << 63 | ((UINT64_C(0x7ff) << 52) - below(3));
-    case 4: return (uint64_t)below(2) << 63 | UINT64_C(0x7ff) << 52 | (below(2) ? 0 : any() >> 12);
-    case 5: return (uint64_t)below(2) << 63;
-    default: return (uint64_t)below(2) << 63 | (1023 - 4 + below(8)) << 52 | (below(4) ? any() >> 12 : 0);
+    case 1: return minus | digits >> few;
+    case 2: return minus | exponent;
+    case 3: return minus | (infinite - few % 3);
+    case 4: return minus | infinite | (few % 2 ? 0 : digits);
+    case 5: return minus;
+    default: return plain_real(few % 4 ? digits : 0);
     }
 }
 
 /* A surface: Allowed tables over 2 of any degrees, in any order; their entries are mostly finite. */
 static void put_surface(void)
 {
-    uint64_t degrees[64], most_degree = below(16) == 0 ? 64 : below(4) == 0 ? 12 : 6, tables = 1 + below(below(4) ? most_degree : 3), end = 4 + 12 * tables;
+    uint64_t degrees[64], most_degree = below(16) == 0 ? 64 : below(4) == 0 ? 12 : 6, most_tables = below(4) ? most_degree : 3;
+    uint64_t tables = 1 + below(most_tables), end = 4 + 12 * tables;
     bool wild = below(8) == 0;
     for (uint64_t k = 0; k < 64; k++)
         degrees[k] = k;
@@ -1163,7 +1173,7 @@ static void put_surface(void)
         put_number(row + 4, end, 4);
         put_number(row + 8, degrees[i] + 1, 4);
         for (uint64_t r = 0; r <= degrees[i]; r++, end += 8)
-            put_number(bytes_at(&image) + end, wild ? real() : (uint64_t)below(2) << 63 | (1023 - 4 + below(8)) << 52 | any() >> 12, 8);
+            put_number(bytes_at(&image) + end, wild ? real() : plain_real(any() >> 12), 8);
     }
     put_number(bytes_at(&image), tables, 4);
     image.len = (size_t)end;
