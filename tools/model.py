@@ -12,7 +12,7 @@ import struct
 import sys
 from math import comb, factorial, isfinite, prod
 
-MAX_LINE, MAX_LIST = 262144, 80
+MAX_LINE, MAX_LIST, MAX_WIDE = 262144, 80, 140
 TOO_WIDE, NOT_MONOTONE, NO_SUCH_RANK, LAST, REPEATED = 1, 2, 3, 4, 5
 FAMILY_DIFFERS, OUTSIDE, SHAPE, TOO_BIG, NOT_A_PERMUTATION = 6, 7, 8, 9, 10
 BAD_IMAGE, NO_SUCH_TABLE, FRAMES_DIFFER, NOT_FINITE = 11, 12, 13, 14
@@ -641,8 +641,86 @@ def lex_converted(room, family, n, k, body, back):
     return b"".join(entries[places.index(place)] for place in range(len(places)))
 
 
-# ---- the requests: a pattern of the words after the verb (F a family, n a number, * a list, Z one of signed numbers, P a permutation,
-# B bytes, D a float, X pieces, / itself), and the answer
+# ---- the wide index: a family and a set of shifted symbols below 128, in two halves, with no alphabet
+
+WIDE = 128
+
+
+def wide_set(low, high):
+    return [s for s in range(WIDE) if (high << 64 | low) >> s & 1]
+
+
+def wide_word(family, symbols):
+    return [s - shift(family, i) for i, s in enumerate(symbols)]
+
+
+def halves(family, word):
+    """The low and the high half of a word whose shifted symbols are below 128."""
+    whole = bits_of(s + shift(family, i) for i, s in enumerate(word))
+    return [whole % 2**64, whole // 2**64]
+
+
+def wide_count(family, n, k):
+    refuse_if(k > WIDE or shifted_alphabet(family, n, k) > WIDE, TOO_WIDE)
+    return fitting(comb(shifted_alphabet(family, n, k), k))
+
+
+def wide_rank(family, word):
+    """The rank is an exact sum; that it is 2^64 or more is the last thing to be judged."""
+    refuse_if(len(word) > WIDE, TOO_WIDE)
+    for p in range(1, len(word)):
+        refuse_if(word[p] < word[p - 1] or family == "forbidden" and word[p] == word[p - 1], NOT_MONOTONE, p)
+    refuse_if(word and word[-1] + shift(family, len(word) - 1) >= WIDE, TOO_WIDE)
+    return fitting(rank_of_set([s + shift(family, i) for i, s in enumerate(word)]))
+
+
+def wide_rank_of(x):
+    return fitting(rank_of_set(wide_set(*x[1:])))
+
+
+def wide_unranked(family, n, k, r):
+    """The word: from the highest position down the greatest shifted symbol whose words all stand before r."""
+    refuse_if(r >= wide_count(family, n, k), NO_SUCH_RANK)
+    symbols, s = [], shifted_alphabet(family, n, k)
+    for i in range(k, 0, -1):
+        s -= 1
+        while comb(s, i) > r:
+            s -= 1
+        r -= comb(s, i)
+        symbols.insert(0, s)
+    return wide_word(family, symbols)
+
+
+def wide_unrank_any(family, k, r):
+    refuse_if(k > WIDE, TOO_WIDE)
+    return wide_unranked(family, WIDE if family == "forbidden" or k == 0 else WIDE + 1 - k, k, r)
+
+
+def wide_next(x):
+    """The lowest symbol that can rise does, and those below it become the lowest."""
+    symbols = wide_set(*x[1:])
+    for i, s in enumerate(symbols):
+        if s + 1 < (symbols + [WIDE])[i + 1]:
+            return halves("forbidden", [*range(i), s + 1, *symbols[i + 1:]])
+    refuse_if(True, LAST)
+
+
+def wide_merge(x, y):
+    refuse_if(x[0] != y[0], FAMILY_DIFFERS)
+    sign, word = sorted_term(x[0], [s for z in (x, y) for s in wide_word(z[0], wide_set(*z[1:]))])
+    refuse_if(word and word[-1] + shift(x[0], len(word) - 1) >= WIDE, TOO_WIDE)
+    return [sign, *halves(x[0], word)]
+
+
+def wide_delete(x, p):
+    word = wide_word(x[0], wide_set(*x[1:]))
+    refuse_if(p >= len(word), OUTSIDE)
+    left = word[:p] + word[p + 1:]
+    return [sign_of([word[p]] + left) if x[0] == "forbidden" else "+", word[p], *halves(x[0], left)]
+
+
+# ---- the requests: a pattern of the words after the verb (F a family, n a number, * a list, W a longer one, Z one of signed numbers,
+# P a permutation, B bytes, D a float, X pieces, / itself), and the answer
 
 
 REQUESTS = {
@@ -710,6 +788,15 @@ REQUESTS = {
     "lexnext": ("F n *", lambda room, f, n, w: lex_next(room, f, n, w)),
     "lexto": ("F n n B", lambda room, f, n, k, b: lex_converted(room, f, n, k, b, False)),
     "lexfrom": ("F n n B", lambda room, f, n, k, b: lex_converted(room, f, n, k, b, True)),
+    "widecount": ("F n n", lambda room, f, n, k: wide_count(f, n, k)),
+    "widerank": ("F W", lambda room, f, w: wide_rank(f, w)),
+    "widerankof": ("F n n", lambda room, *x: wide_rank_of(x)),
+    "wideunrank": ("F n n n", lambda room, f, n, k, r: lend(room, wide_unranked(f, n, k, r))),
+    "wideunrankover": ("F n n n", lambda room, f, n, k, r: halves(f, wide_unranked(f, n, k, r))),
+    "wideunrankany": ("F n n", lambda room, f, k, r: halves(f, wide_unrank_any(f, k, r))),
+    "widenext": ("F n n", lambda room, *x: wide_next(x)),
+    "widemerge": ("F n n F n n", lambda room, *x: wide_merge(x[:3], x[3:])),
+    "widedelete": ("F n n n", lambda room, *x: wide_delete(x[:3], x[3])),
 }
 
 # These must fit exactly: they are given the room as it was asked for, or None.
@@ -747,9 +834,9 @@ def signed(word):
 def arguments(pattern, words):
     taken = []
     for part in pattern.split():
-        if part == "Z":
-            taken.append([signed(w) for w in words])
-            if len(words) > MAX_LIST:
+        if part in "ZW":
+            taken.append([signed(w) if part == "Z" else number(w) for w in words])
+            if len(words) > (MAX_LIST if part == "Z" else MAX_WIDE):
                 raise Bad
             words = []
             continue
@@ -876,6 +963,7 @@ def test():
                 assert digit_word(radices[0], digits[::-1]) == [3, x] and digits_of(radices[0], 3, x) == list(digits[::-1])
     test_images()
     test_masses()
+    test_wide()
 
 
 # Images that are short to write, with what comes of them: the readings of 02 in the order of the fields.
@@ -952,6 +1040,75 @@ def test_masses():
         ("join 1 3FF0000000000000 1 4000000000000000", "bad line"), ("join 1 3ff000000000000 1 4000000000000000", "bad line"),
     ]:
         assert ask(request) == says
+
+
+# The readings of 02 on the wide index, each request with its answer.
+WIDES = [
+    ("widecount forbidden 128 128", "1"), ("widecount forbidden 128 64", "refused 9"), ("widecount forbidden 129 0", "refused 1"),
+    ("widecount forbidden 0 129", "refused 1"), ("widecount allowed 128 1", "128"), ("widecount allowed 128 2", "refused 1"),
+    ("widecount allowed 127 2", "8128"), ("widecount forbidden 67 33", "14226520737620288370"), ("widecount forbidden 68 33", "refused 9"),
+    ("widecount forbidden 128 15", str(comb(128, 15))), ("widecount forbidden 128 16", "refused 9"),
+    ("widecount forbidden 128 113", str(comb(128, 15))), ("widecount forbidden 128 112", "refused 9"), ("widecount allowed 0 3", "0"),
+    ("widecount allowed 18446744073709551615 2", "refused 1"), ("widecount allowed 129 0", "refused 1"),
+    ("wideunrankover forbidden 128 64 0", "refused 9"), ("wideunrankover forbidden 129 64 0", "refused 1"),
+    ("wideunrankover forbidden 128 1 128", "refused 3"), ("wideunrankover forbidden 128 1 127", "0 9223372036854775808"),
+    ("wideunrankover forbidden 128 1 64", "0 1"), ("wideunrank forbidden 128 1 64", "64"), ("room 0 wideunrank forbidden 128 1 64", "refused 8"),
+    ("room 0 wideunrank forbidden 128 1 128", "refused 3"), ("room 0 wideunrank forbidden 128 64 0", "refused 9"), ("wideunrank allowed 1 0 0", ""),
+    ("wideunrankany forbidden 16 0", "refused 9"), ("wideunrankany allowed 16 0", "refused 9"), ("wideunrankany allowed 15 0", "32767 0"),
+    ("wideunrankany forbidden 129 0", "refused 1"), ("wideunrankany allowed 128 0", "18446744073709551615 18446744073709551615"),
+    ("wideunrankany allowed 128 1", "refused 3"), ("wideunrankany allowed 0 0", "0 0"), ("wideunrankany allowed 0 1", "refused 3"),
+    ("widenext forbidden 9223372036854775808 0", "0 1"), ("widenext allowed 0 9223372036854775808", "refused 4"),
+    ("widenext allowed 0 0", "refused 4"), ("widenext forbidden 13835058055282163712 0", "1 1"),
+    ("widenext forbidden 9223372036854775808 9223372036854775808", "0 9223372036854775809"), ("widenext forbidden 0 1", "0 2"),
+    ("widenext forbidden 18446744073709551615 0", "9223372036854775807 1"),
+    ("widedelete allowed 1 1 0", "+ 0 9223372036854775808 0"), ("widedelete allowed 1 1 1", "+ 63 1 0"), ("widedelete allowed 1 1 2", "refused 7"),
+    ("widedelete forbidden 1 1 1", "- 64 1 0"), ("widedelete forbidden 0 9223372036854775808 0", "+ 127 0 0"),
+    ("widedelete allowed 1 9223372036854775808 1", "+ 126 1 0"), ("widedelete allowed 0 0 0", "refused 7"),
+    ("widemerge forbidden 0 1 forbidden 1 0", "- 1 1"), ("widemerge forbidden 1 0 allowed 1 0", "refused 6"),
+    ("widemerge forbidden 0 1 forbidden 1 1", "refused 5"), ("widemerge allowed 0 9223372036854775808 allowed 0 0", "+ 0 9223372036854775808"),
+    ("widemerge allowed 0 9223372036854775808 allowed 1 0", "refused 1"), ("widemerge allowed 0 4611686018427387904 allowed 1 0", "+ 1 9223372036854775808"),
+    ("widemerge allowed 9223372036854775808 0 allowed 1 0", "+ 1 1"), ("widemerge allowed 0 0 allowed 0 0", "+ 0 0"),
+    ("widerank forbidden 127", "127"), ("widerank forbidden 128", "refused 1"), ("widerank allowed 0 126", str(comb(127, 2))), ("widerank allowed 0 127", "refused 1"),
+    ("widerank forbidden 70 69", "refused 2 at 1"), ("widerank forbidden 200 199", "refused 2 at 1"), ("widerank forbidden" + " 0" * 129, "refused 1"),
+    ("widerank allowed" + " 0" * 128, "0"), ("widerank allowed" + " 0" * 129, "refused 1"), ("widerank allowed" + " 0" * 140, "refused 1"),
+    ("widerank allowed" + " 0" * 141, "bad line"), ("widerank forbidden", "0"), ("widerank forbidden " + " ".join(map(str, range(64, 128))), "refused 9"),
+    ("widerankof forbidden 0 18446744073709551615", "refused 9"), ("widerankof allowed 18446744073709551615 18446744073709551615", "0"),
+    ("widecount forbidden 4", "bad line"), ("widerankof forbidden 4", "bad line"), ("widenext forbidden 4 5 6", "bad line"),
+    ("widemerge forbidden 0 1", "bad line"), ("widedelete forbidden 0 1", "bad line"),
+]
+
+
+def wide_greatest(k, r):
+    """The set of k symbols below 128 that has the rank r, for any r below their number."""
+    symbols = []
+    for i in range(k, 0, -1):
+        symbols.insert(0, max(s for s in range(WIDE) if comb(s, i) <= r))
+        r -= comb(symbols[0], i)
+    return symbols
+
+
+def test_wide():
+    for line, says in WIDES:
+        assert ask(line) == says, line
+    # The rank 2^64 - 1 is an answer, 2^64 is not; the degrees of both are those that have so many words.
+    for k in range(15, 114):
+        for r, says in ((2**64 - 1, 2**64 - 1), (2**64, None)):
+            if r < comb(WIDE, k):
+                symbols = wide_greatest(k, r)
+                x = ("forbidden", *halves("forbidden", symbols))
+                assert (refusal(wide_rank_of, x) == TOO_BIG) if says is None else (wide_rank_of(x) == says == wide_rank("forbidden", symbols))
+    # On an alphabet that fits in 64 the wide form gives what the narrow one gives, wherever that answers.
+    for family, n, k in itertools.product(("forbidden", "allowed"), range(7), range(7)):
+        assert wide_count(family, n, k) == count(family, n, k)
+        for r in range(count(family, n, k)):
+            bits = unrank_over(family, n, k, r)[1]
+            x, word = (family, bits, 0), word_of(family, bits)
+            assert wide_unranked(family, n, k, r) == word and halves(family, word) == [bits, 0] and wide_rank_of(x) == wide_rank(family, word) == r
+            if r + 1 < count(family, n, k):
+                assert wide_next(x) == [successor((family, n, bits))[1], 0]
+            for p in range(k):
+                sign, symbol_there, _, left = delete((family, n, bits), p)
+                assert wide_delete(x, p) == [sign, symbol_there, left, 0]
 
 
 def main():
