@@ -4,7 +4,8 @@
  * The source of every function below is proved to do what is said here, for all inputs. docs/RULES.md has the same rules with more
  * examples, docs/PROMISES.md says what the proofs rest on. Link with libgudrenoss.a, which is for x86-64 Linux and needs nothing but
  * memcpy and memset. Sections: one rule, words, pointers, version, refusals, then the functions: terms, signed operations, sets,
- * permutations, shapes, digit words, exponents, images of coefficient tables, images in pieces, the mass of one frame, derivatives, old tables.
+ * permutations, shapes, digit words, exponents, images of coefficient tables, images in pieces, the mass of one frame, derivatives, old
+ * tables, wide indices.
  *
  * ONE RULE
  *
@@ -758,6 +759,87 @@ GUDRENOSS_MUST_USE gudrenoss_refusal gudrenoss_lex_to_colex(
 GUDRENOSS_MUST_USE gudrenoss_refusal gudrenoss_lex_from_colex(
     bool allowed, uint64_t n, uint64_t k, const uint8_t *from, size_t from_len, uint8_t *to, size_t to_room,
     uint64_t *written);
+
+/* ---- Wide indices ------------------------------------------------------------------------------------------------------------ */
+
+/* For more symbols: words whose shifted alphabet is up to 128. A wide index is a family and 128 bits in two halves: bit b of low is set if
+ * b is a shifted symbol, bit b of high if 64 + b is one. It has no alphabet, and any numbers are one: there are no index's checks. It is
+ * passed as three parameters, allowed, low and high, and given as two, low and high. Counts and ranks are numbers below 2^64 here too:
+ * where one is 2^64 or more the functions that state it, and those that unrank, are refused 9. Where a word is over an alphabet that the
+ * other functions take, it has the same rank here, and its index is their bits as low, with high 0. */
+
+/* How many words of the family have k symbols below n.
+ *   1  k > 128, or the shifted alphabet of n and k is above 128
+ *   9  there are 2^64 or more
+ *   *count: the binomial coefficient of the shifted alphabet over k
+ * Of Forbidden 128 15 there are 13216710966550396800. Forbidden 128 16 is refused 9. */
+GUDRENOSS_MUST_USE gudrenoss_refusal gudrenoss_wide_count(bool allowed, uint64_t n, uint64_t k, uint64_t *count);
+
+/* The rank of a word.
+ *   1  the word has more than 128 symbols
+ *   2  the word breaks the family's rule; at: the first position whose symbol may not stand after its neighbour
+ *   1  its last shifted symbol is above 127
+ *   9  the rank is 2^64 or more
+ *   *rank: the rank
+ * Forbidden (127) has rank 127. */
+GUDRENOSS_MUST_USE gudrenoss_refusal gudrenoss_wide_rank(
+    bool allowed, const uint64_t *word, size_t word_len, uint64_t *rank);
+
+/* The rank of the word of a wide index.
+ *   9  the rank is 2^64 or more
+ *   *rank: the rank */
+GUDRENOSS_MUST_USE gudrenoss_refusal gudrenoss_wide_rank_of(bool allowed, uint64_t low, uint64_t high, uint64_t *rank);
+
+/* The word of k symbols below n that has rank r.
+ *   1  k > 128, or the shifted alphabet of n and k is above 128
+ *   9  the count of n and k is 2^64 or more, whatever r is
+ *   3  r is not below the count of n and k
+ *   8  word_room is below k
+ *   word: the word;  *written: k
+ * Forbidden 128 2 has the word 0 64 at rank 2016. */
+GUDRENOSS_MUST_USE gudrenoss_refusal gudrenoss_wide_unrank(
+    bool allowed, uint64_t n, uint64_t k, uint64_t r, uint64_t *word, size_t word_room, uint64_t *written);
+
+/* The same as a wide index.
+ *   1  k > 128, or the shifted alphabet of n and k is above 128
+ *   9  the count of n and k is 2^64 or more, whatever r is
+ *   3  r is not below the count of n and k
+ *   *low, *high: the halves of the index */
+GUDRENOSS_MUST_USE gudrenoss_refusal gudrenoss_wide_unrank_over(
+    bool allowed, uint64_t n, uint64_t k, uint64_t r, uint64_t *low, uint64_t *high);
+
+/* The wide index of degree k that has rank r, with no alphabet named: all 128 bits may be used.
+ *   1  k > 128
+ *   9  the binomial coefficient of 128 over k is 2^64 or more, which it is for k from 16 to 112
+ *   3  r is not below it
+ *   *low, *high: the halves of the index */
+GUDRENOSS_MUST_USE gudrenoss_refusal gudrenoss_wide_unrank_any(
+    bool allowed, uint64_t k, uint64_t r, uint64_t *low, uint64_t *high);
+
+/* The next wide index of the same family and degree.
+ *   4  no index of that degree in 128 bits is later (so for low and high 0)
+ *   *next_low, *next_high: its halves
+ * After low 2^63 and high 0, that is (63), comes low 0 and high 1. */
+GUDRENOSS_MUST_USE gudrenoss_refusal gudrenoss_wide_successor(
+    bool allowed, uint64_t low, uint64_t high, uint64_t *next_low, uint64_t *next_high);
+
+/* The two words of one family joined into one sorted word.
+ *   6  the families differ
+ *   5  Forbidden, and the two share a symbol
+ *   1  Allowed, and a shifted symbol of the joined word is above 127
+ *   *minus: whether the number of pairs with the left symbol larger is odd, false for Allowed;  *low, *high: the joined word's index
+ * Allowed low 2^63 and Allowed low 1, that is (63) and (0), is plus, low 1, high 1: the word (0, 63). */
+GUDRENOSS_MUST_USE gudrenoss_refusal gudrenoss_wide_merge(
+    bool left_allowed, uint64_t left_low, uint64_t left_high, bool right_allowed, uint64_t right_low,
+    uint64_t right_high, bool *minus, uint64_t *low, uint64_t *high);
+
+/* The symbol at position p taken out of a wide index's word.
+ *   7  p is not below the degree
+ *   *minus: whether p is odd, false for Allowed;  *symbol: the symbol, shift taken off;  *rest_low, *rest_high: the index of what is left
+ * Allowed low 1 and high 1, that is (0, 63), at position 0 is plus, symbol 0, low 2^63, high 0. */
+GUDRENOSS_MUST_USE gudrenoss_refusal gudrenoss_wide_delete(
+    bool allowed, uint64_t low, uint64_t high, uint64_t p, bool *minus, uint64_t *symbol, uint64_t *rest_low,
+    uint64_t *rest_high);
 
 #ifdef __cplusplus
 }

@@ -8,6 +8,7 @@
 //! |---|---|
 //! | [`Repetition`] | the two families of words: subsets and multisets; counting, ranking and unranking of words, also in the lexicographic order of old tables, and the conversion of those |
 //! | [`MonoIndex`], [`MonoIndices`] | a word of a family over its alphabet, as 64 bits; a walk through all words of a degree |
+//! | [`WideIndex`] | a word whose shifted alphabet is up to 128, as 128 bits, with no alphabet |
 //! | [`Combination`] | a set of symbols below 64 |
 //! | [`Permutation`] | a permutation of up to 64 entries |
 //! | [`Radix`], [`Word`] | shapes, and words of digits over one radix |
@@ -50,6 +51,7 @@ mod sign;
 mod symbols;
 #[allow(unsafe_code)]
 mod sys;
+mod wide;
 
 pub use cartesian::{Radix, Word};
 pub use combination::{Combination, Members};
@@ -62,6 +64,7 @@ pub use permutation::Permutation;
 pub use refusal::Refusal;
 pub use sign::Sign;
 pub use symbols::Symbols;
+pub use wide::WideIndex;
 
 /// The version of the library that is linked: major, minor, patch.
 ///

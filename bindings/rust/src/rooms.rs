@@ -45,6 +45,16 @@ fn lexicographic_words() {
 }
 
 #[test]
+fn wide_words() {
+    try_rooms(&[0, 64], |word, written| {
+        sys::gudrenoss_wide_unrank(false, 128, 2, 2016, word, written)
+    });
+    try_rooms(&[0; 128], |word, written| {
+        sys::gudrenoss_wide_unrank(true, 1, 128, 0, word, written)
+    });
+}
+
+#[test]
 fn shapes() {
     let radices = [2, 3, 4, 5, 6, 7, 8, 9, 1, 1, 1, 1, 1, 1, 1, 2];
     let strides = [

@@ -2,7 +2,8 @@ use core::hash::{Hash, Hasher};
 use core::ops::Deref;
 use core::{array, fmt, iter, slice};
 
-/// A list of at most 64 numbers, held inline: a word, a list of digits, strides or exponents. It reads as a slice.
+/// A list of at most `N` numbers, held inline: a word, a list of digits, strides or exponents. `N` is 64 unless it is said, and 128 for
+/// the word of a wide index. It reads as a slice.
 ///
 /// ```
 /// use gudrenoss::Repetition;
@@ -15,15 +16,15 @@ use core::{array, fmt, iter, slice};
 /// ```
 #[derive(Clone, Copy)]
 #[must_use]
-pub struct Symbols {
-    places: [u64; 64],
+pub struct Symbols<const N: usize = 64> {
+    places: [u64; N],
     len: usize,
 }
 
-impl Symbols {
-    /// The list that `fill` writes. It is lent 64 places, which suffice for every call, and says how many it has written.
+impl<const N: usize> Symbols<N> {
+    /// The list that `fill` writes. It is lent `N` places, which suffice for every call, and says how many it has written.
     pub(crate) fn filled<E>(fill: impl FnOnce(&mut [u64], &mut u64) -> Result<(), E>) -> Result<Self, E> {
-        let (mut places, mut written) = ([0; 64], 0);
+        let (mut places, mut written) = ([0; N], 0);
         fill(&mut places, &mut written)?;
         Ok(Symbols {
             places,
@@ -31,36 +32,36 @@ impl Symbols {
         })
     }
 
-    /// A copy of a list of at most 64 numbers.
+    /// A copy of a list of at most `N` numbers.
     pub(crate) fn copied(list: &[u64]) -> Self {
-        let mut places = [0; 64];
+        let mut places = [0; N];
         places[..list.len()].copy_from_slice(list);
         Symbols { places, len: list.len() }
     }
 }
 
-impl Deref for Symbols {
+impl<const N: usize> Deref for Symbols<N> {
     type Target = [u64];
     fn deref(&self) -> &[u64] {
         &self.places[..self.len]
     }
 }
 
-impl AsRef<[u64]> for Symbols {
+impl<const N: usize> AsRef<[u64]> for Symbols<N> {
     fn as_ref(&self) -> &[u64] {
         self
     }
 }
 
-impl IntoIterator for Symbols {
+impl<const N: usize> IntoIterator for Symbols<N> {
     type Item = u64;
-    type IntoIter = iter::Take<array::IntoIter<u64, 64>>;
+    type IntoIter = iter::Take<array::IntoIter<u64, N>>;
     fn into_iter(self) -> Self::IntoIter {
         self.places.into_iter().take(self.len)
     }
 }
 
-impl<'a> IntoIterator for &'a Symbols {
+impl<'a, const N: usize> IntoIterator for &'a Symbols<N> {
     type Item = &'a u64;
     type IntoIter = slice::Iter<'a, u64>;
     fn into_iter(self) -> Self::IntoIter {
@@ -68,45 +69,45 @@ impl<'a> IntoIterator for &'a Symbols {
     }
 }
 
-impl PartialEq for Symbols {
+impl<const N: usize> PartialEq for Symbols<N> {
     fn eq(&self, other: &Self) -> bool {
         **self == **other
     }
 }
 
-impl Eq for Symbols {}
+impl<const N: usize> Eq for Symbols<N> {}
 
-impl Hash for Symbols {
+impl<const N: usize> Hash for Symbols<N> {
     fn hash<H: Hasher>(&self, state: &mut H) {
         (**self).hash(state);
     }
 }
 
-impl<const N: usize> PartialEq<[u64; N]> for Symbols {
-    fn eq(&self, other: &[u64; N]) -> bool {
+impl<const N: usize, const M: usize> PartialEq<[u64; M]> for Symbols<N> {
+    fn eq(&self, other: &[u64; M]) -> bool {
         **self == *other
     }
 }
 
-impl PartialEq<[u64]> for Symbols {
+impl<const N: usize> PartialEq<[u64]> for Symbols<N> {
     fn eq(&self, other: &[u64]) -> bool {
         **self == *other
     }
 }
 
-impl PartialEq<&[u64]> for Symbols {
+impl<const N: usize> PartialEq<&[u64]> for Symbols<N> {
     fn eq(&self, other: &&[u64]) -> bool {
         **self == **other
     }
 }
 
-impl fmt::Debug for Symbols {
+impl<const N: usize> fmt::Debug for Symbols<N> {
     fn fmt(&self, f: &mut fmt::Formatter<'_>) -> fmt::Result {
         f.debug_list().entries(self.iter()).finish()
     }
 }
 
-impl fmt::Display for Symbols {
+impl<const N: usize> fmt::Display for Symbols<N> {
     fn fmt(&self, f: &mut fmt::Formatter<'_>) -> fmt::Result {
         listed(f, self)
     }

@@ -157,6 +157,33 @@ unsafe extern "C" {
     pub safe fn gudrenoss_pieces_start(bytes: &mut [u8; 772], seen: &mut u64, state: &mut u64, at: &mut u64) -> Status;
     pub safe fn gudrenoss_pieces_end(bytes: &mut [u8; 772], seen: &mut u64, state: &mut u64, at: &mut u64) -> Status;
     pub safe fn gudrenoss_pieces_verdict(state: u64, at: u64, still: &mut bool, tables: &mut u64) -> Status;
+
+    pub safe fn gudrenoss_wide_count(allowed: bool, n: u64, k: u64, count: &mut u64) -> Status;
+    pub safe fn gudrenoss_wide_rank_of(allowed: bool, low: u64, high: u64, rank: &mut u64) -> Status;
+    pub safe fn gudrenoss_wide_unrank_over(allowed: bool, n: u64, k: u64, r: u64, low: &mut u64, high: &mut u64) -> Status;
+    pub safe fn gudrenoss_wide_unrank_any(allowed: bool, k: u64, r: u64, low: &mut u64, high: &mut u64) -> Status;
+    pub safe fn gudrenoss_wide_successor(allowed: bool, low: u64, high: u64, next_low: &mut u64, next_high: &mut u64) -> Status;
+    pub safe fn gudrenoss_wide_merge(
+        left_allowed: bool,
+        left_low: u64,
+        left_high: u64,
+        right_allowed: bool,
+        right_low: u64,
+        right_high: u64,
+        minus: &mut bool,
+        low: &mut u64,
+        high: &mut u64,
+    ) -> Status;
+    pub safe fn gudrenoss_wide_delete(
+        allowed: bool,
+        low: u64,
+        high: u64,
+        p: u64,
+        minus: &mut bool,
+        symbol: &mut u64,
+        rest_low: &mut u64,
+        rest_high: &mut u64,
+    ) -> Status;
 }
 
 /// A function with slices: its declaration with the slices taken apart, and a safe function that does so. `[xs]` is a slice that is
@@ -225,6 +252,8 @@ with_slices! {
     fn gudrenoss_image_at([image: u8], alphabet: u64, offset: u64, entries: u64, allowed: bool, n: u64, bits: u64, coefficient: &mut u64);
     fn gudrenoss_image_write([contents: u8], [bodies: u8], {image: u8}, written: &mut u64);
     fn gudrenoss_pieces_feed(bytes: &mut [u8; 772], seen: &mut u64, state: &mut u64, at: &mut u64, [piece: u8]);
+    fn gudrenoss_wide_rank(allowed: bool, [word], rank: &mut u64);
+    fn gudrenoss_wide_unrank(allowed: bool, n: u64, k: u64, r: u64, {word}, written: &mut u64);
 }
 
 /// The one function with a slice that names a frame.

@@ -1,7 +1,7 @@
 //! The rules of docs/RULES.md through the bindings: its examples, its corners, and every refusal of every call.
 
 use gudrenoss::Repetition::{Allowed, Forbidden};
-use gudrenoss::{derivative, Combination, Composition, MonoIndex, Permutation, Radix, Refusal, Sign, Word};
+use gudrenoss::{derivative, Combination, Composition, MonoIndex, Permutation, Radix, Refusal, Sign, WideIndex, Word};
 
 const TOP: u64 = u64::MAX;
 const HIGH_BIT: u64 = 1 << 63;
@@ -454,4 +454,101 @@ fn old_tables() {
         assert!(longer.iter().all(|&b| b == 7));
     }
     assert_eq!(allowed.body_from_lexicographic(64, 2, &[], &mut []), Err(Refusal::TooWide));
+}
+
+fn wide(repetition: gudrenoss::Repetition, bits: u128) -> WideIndex {
+    WideIndex::from_bits(repetition, bits)
+}
+
+#[test]
+fn wide_words() {
+    assert_eq!(Forbidden.wide_count(128, 15), Ok(13216710966550396800));
+    assert_eq!(Forbidden.wide_count(128, 16), Err(Refusal::TooBig));
+    assert_eq!(Forbidden.wide_count(128, 113), Ok(13216710966550396800));
+    assert_eq!(Allowed.wide_count(1, 128), Ok(1));
+    assert_eq!(Allowed.wide_count(1, 129), Err(Refusal::TooWide));
+    assert_eq!(Allowed.wide_count(TOP, 2), Err(Refusal::TooWide));
+    assert_eq!(Forbidden.wide_rank(&[127]), Ok(127));
+    assert_eq!(Forbidden.wide_rank(&[128]), Err(Refusal::TooWide));
+    assert_eq!(Allowed.wide_rank(&[0; 128]), Ok(0));
+    assert_eq!(Allowed.wide_rank(&[0; 129]), Err(Refusal::TooWide));
+    assert_eq!(Allowed.wide_rank(&[0, 127]), Err(Refusal::TooWide));
+    assert_eq!(Forbidden.wide_rank(&[200, 199]), Err(Refusal::NotMonotone { at: 1 }));
+    let top: Vec<u64> = (64..128).collect();
+    assert_eq!(Forbidden.wide_rank(&top), Err(Refusal::TooBig));
+    assert_eq!(Forbidden.wide_word_from_rank(128, 1, 127).unwrap(), [127]);
+    assert_eq!(Allowed.wide_word_from_rank(1, 128, 0).unwrap(), [0; 128]);
+    assert_eq!(Forbidden.wide_word_from_rank(128, 1, 128), Err(Refusal::NoSuchRank));
+    assert_eq!(Forbidden.wide_word_from_rank(128, 64, 0), Err(Refusal::TooBig));
+    assert_eq!(Forbidden.wide_word_from_rank(129, 64, 0), Err(Refusal::TooWide));
+}
+
+#[test]
+fn wide_indices() {
+    assert_eq!(WideIndex::from_rank(Forbidden, 1, 64), Ok(wide(Forbidden, 1 << 64)));
+    assert_eq!(WideIndex::from_rank(Allowed, 128, 0), Ok(wide(Allowed, u128::MAX)));
+    assert_eq!(WideIndex::from_rank(Allowed, 128, 1), Err(Refusal::NoSuchRank));
+    assert_eq!(WideIndex::from_rank(Allowed, 16, 0), Err(Refusal::TooBig));
+    assert_eq!(WideIndex::from_rank(Allowed, 129, 0), Err(Refusal::TooWide));
+    assert_eq!(WideIndex::from_rank_over(Allowed, 3, 2, 3), Ok(multiset(3, 9).into()));
+    assert_eq!(WideIndex::from_rank_over(Allowed, 2, 2, 3), Err(Refusal::NoSuchRank));
+    assert_eq!(WideIndex::from_rank_over(Forbidden, 128, 64, 0), Err(Refusal::TooBig));
+    assert_eq!(WideIndex::from_rank_over(Forbidden, 129, 64, 0), Err(Refusal::TooWide));
+    assert_eq!(wide(Forbidden, 1 << 127).rank(), Ok(127));
+    assert_eq!(wide(Forbidden, u128::MAX << 64).rank(), Err(Refusal::TooBig));
+    assert_eq!(wide(Forbidden, 1 << 63).colex_successor(), Ok(wide(Forbidden, 1 << 64)));
+    assert_eq!(wide(Forbidden, 3 << 62).colex_successor(), Ok(wide(Forbidden, 1 << 64 | 1)));
+    assert_eq!(wide(Allowed, 0).colex_successor(), Err(Refusal::Last));
+    assert_eq!(wide(Allowed, 7 << 125).colex_successor(), Err(Refusal::Last));
+    assert_eq!(u128::from(wide(Allowed, 7 << 125)), 7 << 125);
+    assert_eq!(WideIndex::from((Allowed, 5)).repetition(), Allowed);
+}
+
+#[test]
+fn wide_signed_operations() {
+    let (low, high) = (wide(Forbidden, 1), wide(Forbidden, 1 << 64));
+    assert_eq!(high.merge(low), Ok((Sign::Neg, wide(Forbidden, 1 << 64 | 1))));
+    assert_eq!(low.merge(high), Ok((Sign::Pos, wide(Forbidden, 1 << 64 | 1))));
+    assert_eq!(high.merge(high), Err(Refusal::Repeated));
+    assert_eq!(high.merge(wide(Allowed, 1 << 64)), Err(Refusal::Family));
+    assert_eq!(
+        wide(Allowed, 1 << 63).merge(wide(Allowed, 1)),
+        Ok((Sign::Pos, wide(Allowed, 1 << 64 | 1)))
+    );
+    assert_eq!(wide(Allowed, 1 << 127).merge(wide(Allowed, 1)), Err(Refusal::TooWide));
+    assert_eq!(
+        wide(Allowed, 1 << 127).merge(wide(Allowed, 0)),
+        Ok((Sign::Pos, wide(Allowed, 1 << 127)))
+    );
+    assert_eq!(
+        wide(Allowed, 1 << 64 | 1).deletion(0),
+        Ok((Sign::Pos, 0, wide(Allowed, 1 << 63)))
+    );
+    assert_eq!(wide(Allowed, 1 << 64 | 1).deletion(1), Ok((Sign::Pos, 63, wide(Allowed, 1))));
+    assert_eq!(
+        wide(Forbidden, 1 << 127 | 1).deletion(1),
+        Ok((Sign::Neg, 127, wide(Forbidden, 1)))
+    );
+    assert_eq!(wide(Forbidden, 1 << 127 | 1).deletion(2), Err(Refusal::Outside));
+}
+
+#[test]
+fn wide_and_narrow_agree() {
+    for repetition in [Forbidden, Allowed] {
+        for degree in 0..6 {
+            for index in MonoIndex::all(repetition, 6, degree).unwrap() {
+                let same = WideIndex::from(index);
+                assert_eq!(same.rank(), Ok(index.rank()));
+                assert_eq!(repetition.wide_rank(&index.word()), Ok(index.rank()));
+                assert_eq!(WideIndex::from_rank_over(repetition, 6, degree, index.rank()), Ok(same));
+                if let Ok(next) = index.colex_successor() {
+                    assert_eq!(same.colex_successor(), Ok(next.into()));
+                }
+                for p in 0..degree {
+                    let (sign, symbol, rest) = index.deletion(p).unwrap();
+                    assert_eq!(same.deletion(p), Ok((sign, symbol, rest.into())));
+                }
+            }
+        }
+    }
 }
