@@ -6,7 +6,7 @@
 #include <stdio.h>
 #include <string.h>
 
-enum { guard = 2, most = 70, numbers = 5 };
+enum { guard = 2, most = 140, numbers = 5 };
 
 /* A list between guards. */
 struct list {
@@ -1027,6 +1027,120 @@ static void test_old_tables(void)
     refused(gudrenoss_lex_from_colex(allowed, 64, 2, BODY(10), BYTES(48), X), TOO_WIDE);
 }
 
+/* ---- Wide indices ------------------------------------------------------------------------------------------------------------ */
+
+static void test_wide_words(void)
+{
+    const uint64_t first[128] = {0};
+    number(gudrenoss_wide_count(forbidden, 128, 15, X), 13216710966550396800u);
+    number(gudrenoss_wide_count(forbidden, 128, 113, X), 13216710966550396800u);
+    number(gudrenoss_wide_count(forbidden, 67, 33, X), 14226520737620288370u);
+    number(gudrenoss_wide_count(allowed, 127, 2, X), 8128);
+    number(gudrenoss_wide_count(allowed, 1, 128, X), 1);
+    number(gudrenoss_wide_count(allowed, 0, 3, X), 0);
+    number(gudrenoss_wide_count(forbidden, 0, 0, X), 1);
+    refused(gudrenoss_wide_count(forbidden, 128, 16, X), TOO_BIG);
+    refused(gudrenoss_wide_count(forbidden, 128, 112, X), TOO_BIG);
+    refused(gudrenoss_wide_count(forbidden, 68, 33, X), TOO_BIG);
+    refused(gudrenoss_wide_count(allowed, 128, 2, X), TOO_WIDE);
+    refused(gudrenoss_wide_count(allowed, top, 2, X), TOO_WIDE);
+    refused(gudrenoss_wide_count(forbidden, 129, 64, X), TOO_WIDE);
+    refused(gudrenoss_wide_count(forbidden, 0, 129, X), TOO_WIDE);
+
+    number(gudrenoss_wide_rank(forbidden, IN(127), X), 127);
+    number(gudrenoss_wide_rank(allowed, IN(0, 126), X), 8001);
+    number(gudrenoss_wide_rank(allowed, IN(1, 1), X), 2);
+    number(gudrenoss_wide_rank(forbidden, NULL, 0, X), 0);
+    number(gudrenoss_wide_rank(forbidden, rising(), 128, X), 0);
+    number(gudrenoss_wide_rank(allowed, same(0), 128, X), 0);
+    number(gudrenoss_wide_rank(forbidden, IN(3, 26, 36, 41, 45, 46, 51, 58, 63, 64, 66, 72, 94, 101, 109, 116), X), top);
+    refused(gudrenoss_wide_rank(forbidden, IN(4, 26, 36, 41, 45, 46, 51, 58, 63, 64, 66, 72, 94, 101, 109, 116), X), TOO_BIG);
+    refused(gudrenoss_wide_rank(forbidden, rising() + 64, 64, X), TOO_BIG);
+    refused(gudrenoss_wide_rank(forbidden, rising(), 129, X), TOO_WIDE);
+    refused(gudrenoss_wide_rank(forbidden, same(0), 129, X), TOO_WIDE);
+    refused(gudrenoss_wide_rank(forbidden, rising() + 65, 64, X), TOO_WIDE);
+    refused(gudrenoss_wide_rank(allowed, IN(0, 127), X), TOO_WIDE);
+    refused(gudrenoss_wide_rank(allowed, IN(0, top), X), TOO_WIDE);
+    breaks(gudrenoss_wide_rank(forbidden, IN(200, 199), X), 1);
+    breaks(gudrenoss_wide_rank(allowed, IN(3, 5, 4, 1), X), 2);
+    breaks(gudrenoss_wide_rank(forbidden, last_falls(), 128, X), 63);
+
+    list(gudrenoss_wide_unrank(forbidden, 128, 2, 2016, OUT(2), X), 0, 64);
+    list(gudrenoss_wide_unrank(allowed, 3, 2, 3, OUT(128), X), 0, 2);
+    looks_list(__LINE__, gudrenoss_wide_unrank(allowed, 1, 128, 0, OUT(128), X), first, 128);
+    nothing(gudrenoss_wide_unrank(forbidden, 128, 0, 0, NULL, 0, X));
+    refused(gudrenoss_wide_unrank(allowed, 1, 128, 0, OUT(127), X), SHAPE);
+    refused(gudrenoss_wide_unrank(forbidden, 128, 1, 128, OUT(0), X), NO_SUCH_RANK);
+    refused(gudrenoss_wide_unrank(forbidden, 128, 64, 0, OUT(0), X), TOO_BIG);
+    refused(gudrenoss_wide_unrank(forbidden, 128, 64, top, OUT(64), X), TOO_BIG);
+    refused(gudrenoss_wide_unrank(forbidden, 129, 64, 0, OUT(0), X), TOO_WIDE);
+}
+
+static void test_wide_indices(void)
+{
+    number(gudrenoss_wide_rank_of(forbidden, 0, high_bit, X), 127);
+    number(gudrenoss_wide_rank_of(allowed, 10, 0, X), 4);
+    number(gudrenoss_wide_rank_of(forbidden, top, top, X), 0);
+    number(gudrenoss_wide_rank_of(forbidden, 9513962033746280456u, 4538922512154885u, X), top);
+    refused(gudrenoss_wide_rank_of(forbidden, 9513962033746280464u, 4538922512154885u, X), TOO_BIG);
+    refused(gudrenoss_wide_rank_of(allowed, 0, top, X), TOO_BIG);
+
+    two(gudrenoss_wide_unrank_over(forbidden, 128, 1, 127, X, Y), 0, high_bit);
+    two(gudrenoss_wide_unrank_over(forbidden, 128, 1, 63, X, Y), high_bit, 0);
+    two(gudrenoss_wide_unrank_over(allowed, 3, 2, 3, X, Y), 9, 0);
+    refused(gudrenoss_wide_unrank_over(allowed, 2, 2, 3, X, Y), NO_SUCH_RANK);
+    refused(gudrenoss_wide_unrank_over(forbidden, 128, 64, 0, X, Y), TOO_BIG);
+    refused(gudrenoss_wide_unrank_over(allowed, 128, 64, 0, X, Y), TOO_WIDE);
+    two(gudrenoss_wide_unrank_any(forbidden, 1, 64, X, Y), 0, 1);
+    two(gudrenoss_wide_unrank_any(allowed, 15, 13216710966550396799u, X, Y), 0, top << 49);
+    two(gudrenoss_wide_unrank_any(allowed, 128, 0, X, Y), top, top);
+    refused(gudrenoss_wide_unrank_any(allowed, 128, 1, X, Y), NO_SUCH_RANK);
+    refused(gudrenoss_wide_unrank_any(forbidden, 16, 0, X, Y), TOO_BIG);
+    refused(gudrenoss_wide_unrank_any(allowed, 112, top, X, Y), TOO_BIG);
+    refused(gudrenoss_wide_unrank_any(allowed, 129, 0, X, Y), TOO_WIDE);
+
+    two(gudrenoss_wide_successor(forbidden, high_bit, 0, X, Y), 0, 1);
+    two(gudrenoss_wide_successor(allowed, high_bit | high_bit >> 1, 0, X, Y), 1, 1);
+    two(gudrenoss_wide_successor(forbidden, top, 0, X, Y), top >> 1, 1);
+    two(gudrenoss_wide_successor(forbidden, high_bit, 1, X, Y), 1, 2);
+    two(gudrenoss_wide_successor(forbidden, high_bit, top >> 1, X, Y), top >> 1, high_bit);
+    *X = 3; /* values that are passed may be those of the places of the result */
+    *Y = 0;
+    two(gudrenoss_wide_successor(forbidden, *X, *Y, X, Y), 5, 0);
+    refused(gudrenoss_wide_successor(forbidden, 0, high_bit, X, Y), LAST);
+    refused(gudrenoss_wide_successor(allowed, 0, 0, X, Y), LAST);
+    refused(gudrenoss_wide_successor(allowed, top, top, X, Y), LAST);
+    refused(gudrenoss_wide_successor(allowed, high_bit, top, X, Y), LAST);
+}
+
+static void test_wide_signed(void)
+{
+    flag_and_two(gudrenoss_wide_merge(forbidden, 0, 1, forbidden, 1, 0, FLAG, X, Y), minus, 1, 1);
+    flag_and_two(gudrenoss_wide_merge(forbidden, 1, 0, forbidden, 0, 1, FLAG, X, Y), plus, 1, 1);
+    flag_and_two(gudrenoss_wide_merge(forbidden, top, 0, forbidden, 0, top, FLAG, X, Y), plus, top, top);
+    flag_and_two(gudrenoss_wide_merge(allowed, high_bit, 0, allowed, 1, 0, FLAG, X, Y), plus, 1, 1);
+    flag_and_two(gudrenoss_wide_merge(allowed, 9, 0, allowed, 4, 0, FLAG, X, Y), plus, 25, 0);
+    flag_and_two(gudrenoss_wide_merge(allowed, 0, high_bit, allowed, 0, 0, FLAG, X, Y), plus, 0, high_bit);
+    refused(gudrenoss_wide_merge(allowed, 0, high_bit, allowed, 1, 0, FLAG, X, Y), TOO_WIDE);
+    refused(gudrenoss_wide_merge(allowed, top, top, allowed, 1, 0, FLAG, X, Y), TOO_WIDE);
+    refused(gudrenoss_wide_merge(forbidden, 0, 3, forbidden, 0, 6, FLAG, X, Y), REPEATED);
+    refused(gudrenoss_wide_merge(forbidden, 1, 0, forbidden, 1, 8, FLAG, X, Y), REPEATED);
+    refused(gudrenoss_wide_merge(forbidden, 0, 1, allowed, 0, 1, FLAG, X, Y), FAMILY);
+    refused(gudrenoss_wide_merge(allowed, 0, 0, forbidden, 0, 0, FLAG, X, Y), FAMILY);
+
+    flag_and_three(gudrenoss_wide_delete(allowed, 1, 1, 0, FLAG, X, Y, Z), plus, 0, high_bit, 0);
+    flag_and_three(gudrenoss_wide_delete(allowed, 1, 1, 1, FLAG, X, Y, Z), plus, 63, 1, 0);
+    flag_and_three(gudrenoss_wide_delete(forbidden, 1, 1, 0, FLAG, X, Y, Z), plus, 0, 0, 1);
+    flag_and_three(gudrenoss_wide_delete(forbidden, 1, 1, 1, FLAG, X, Y, Z), minus, 64, 1, 0);
+    flag_and_three(gudrenoss_wide_delete(allowed, 0, high_bit, 0, FLAG, X, Y, Z), plus, 127, 0, 0);
+    flag_and_three(gudrenoss_wide_delete(allowed, top, top, 127, FLAG, X, Y, Z), plus, 0, top, top >> 1);
+    flag_and_three(gudrenoss_wide_delete(allowed, high_bit, 3, 1, FLAG, X, Y, Z), plus, 63, high_bit, 1);
+    refused(gudrenoss_wide_delete(allowed, top, top, 128, FLAG, X, Y, Z), OUTSIDE);
+    refused(gudrenoss_wide_delete(forbidden, 1, 1, 2, FLAG, X, Y, Z), OUTSIDE);
+    refused(gudrenoss_wide_delete(forbidden, 0, 0, 0, FLAG, X, Y, Z), OUTSIDE);
+    refused(gudrenoss_wide_delete(forbidden, top, 0, top, FLAG, X, Y, Z), OUTSIDE);
+}
+
 int main(void)
 {
     fresh();
@@ -1057,6 +1171,9 @@ int main(void)
     test_exponents();
     test_derivative();
     test_old_tables();
+    test_wide_words();
+    test_wide_indices();
+    test_wide_signed();
     printf("%d checks, %d failed\n", checks, failed);
     return failed > 0;
 }

@@ -89,7 +89,7 @@ static struct index some_index(void)
 
 /* ---- Guarded memory --------------------------------------------------------------------------------------------------------- */
 
-enum { guard = 4, most = 80, values = 5 };
+enum { guard = 4, most = 140, values = 5 };
 
 /* A list with guards at both ends, and a copy of all of it as it was before the call. */
 struct list {
@@ -1240,6 +1240,184 @@ static struct outcome call_mass(void)
     return framed(back, a, kept_bytes(&image, 0));
 }
 
+/* ---- Wide indices ----------------------------------------------------------------------------------------------------------- */
+
+/* A wide index: any halves, one half empty or full, or a few bits on both sides of the seam. */
+static struct wide_index some_wide(bool allowed)
+{
+    struct wide_index x = {allowed, bits(), bits()};
+    switch (below(8)) {
+    case 0: x.high = 0; break;
+    case 1: x.low = 0; break;
+    case 2: x.low &= UINT64_MAX << (56 + below(8)), x.high &= UINT64_MAX >> (56 + below(8)); break;
+    case 3: x.low = UINT64_MAX << below(64), x.high = UINT64_MAX >> below(64); break;
+    case 4: x.low &= any() & any() & any(), x.high &= any() & any() & any(); break;
+    case 5: x.high = UINT64_MAX << below(64), x.low = below(2) ? 0 : x.low; break;
+    }
+    return x;
+}
+
+/* A wide index of few symbols, drawn one by one. */
+static struct wide_index few_wide(bool allowed)
+{
+    struct wide_index x = {allowed, 0, 0};
+    for (uint64_t k = below(16); k > 0; k--)
+        *(coin() ? &x.low : &x.high) |= (uint64_t)1 << below(64);
+    return x;
+}
+
+static struct wide_index wide_index(void)
+{
+    bool allowed = coin();
+    return coin() ? some_wide(allowed) : few_wide(allowed);
+}
+
+/* A degree whose words all have a rank, or any. */
+static uint64_t wide_degree(void)
+{
+    switch (below(6)) {
+    case 0: return number(128);
+    case 1: return 110 + below(20);
+    case 2: return below(129);
+    case 3: return 13 + below(5);
+    default: return below(16);
+    }
+}
+
+/* An alphabet for a degree: often the widest whose words are fewer than 2^64, or one more. */
+static uint64_t wide_alphabet(bool allowed, uint64_t k)
+{
+    uint64_t widest = k <= 128 ? 128 : below(129);
+    if (k <= 128 && coin())
+        while (widest > k && model_wide_count(false, widest, k).refusal)
+            widest--;
+    uint64_t n = allowed && 0 < k && k <= widest ? widest + 1 - k : widest;
+    switch (below(6)) {
+    case 0: return number(128);
+    case 1: return n + below(2);
+    case 2: return below(n + 1);
+    case 3: return n - below(2);
+    default: return n;
+    }
+}
+
+/* A rank that is often below the count. */
+static uint64_t wide_rank(bool allowed, uint64_t n, uint64_t k)
+{
+    struct answer a = model_wide_count(allowed, n, k);
+    return a.refusal || a.value[0] == 0 || below(8) == 0 ? number(64) : below(8) == 0 ? a.value[0] - below(2) : below(a.value[0]);
+}
+
+/* A word of a wide index, or that with one symbol changed, or one that is longer. */
+static void put_wide_word(struct list *l, bool allowed)
+{
+    struct wide_index x = coin() ? some_wide(allowed) : few_wide(allowed);
+    l->len = 0;
+    for (uint64_t b = 0; b < 128; b++)
+        if ((b < 64 ? x.low >> b : x.high >> (b - 64)) & 1) {
+            at(l)[l->len] = allowed ? b - l->len : b;
+            l->len++;
+        }
+    if (below(32) == 0)
+        for (uint64_t longer = below(12); longer > 0; longer--, l->len++)
+            at(l)[l->len] = 128 + below(3);
+    if (l->len > 0 && below(4) == 0)
+        at(l)[below(l->len)] = number(128);
+    if (l->len > 0 && below(8) == 0)
+        at(l)[l->len - 1] += below(4);
+}
+
+static struct outcome call_wide_count(void)
+{
+    bool allowed = coin();
+    uint64_t k = wide_degree(), n = wide_alphabet(allowed, k);
+    fresh(0);
+    ready();
+    return (struct outcome){gudrenoss_wide_count(allowed, n, k, &value[0].value), model_wide_count(allowed, n, k)};
+}
+
+static struct outcome call_wide_rank(void)
+{
+    bool allowed = coin();
+    fresh(0);
+    put_wide_word(&left, allowed);
+    ready();
+    return (struct outcome){
+        gudrenoss_wide_rank(allowed, pass(&left), left.len, &value[0].value), model_wide_rank(allowed, at(&left), left.len)};
+}
+
+static struct outcome call_wide_rank_of(void)
+{
+    struct wide_index x = wide_index();
+    fresh(0);
+    ready();
+    return (struct outcome){gudrenoss_wide_rank_of(x.allowed, x.low, x.high, &value[0].value), model_wide_rank_of(x)};
+}
+
+static struct outcome call_wide_unrank(void)
+{
+    bool allowed = coin();
+    uint64_t k = wide_degree(), n = wide_alphabet(allowed, k), r = wide_rank(allowed, n, k);
+    fresh(below(4) == 0 ? room() : most);
+    ready();
+    return (struct outcome){gudrenoss_wide_unrank(allowed, n, k, r, pass(&out), out.len, &value[0].value),
+        model_wide_unrank(allowed, n, k, r, out.len)};
+}
+
+static struct outcome call_wide_unrank_over(void)
+{
+    bool allowed = coin();
+    uint64_t k = wide_degree(), n = wide_alphabet(allowed, k), r = wide_rank(allowed, n, k);
+    fresh(0);
+    ready();
+    return (struct outcome){gudrenoss_wide_unrank_over(allowed, n, k, r, &value[0].value, &value[1].value),
+        model_wide_unrank_over(allowed, n, k, r)};
+}
+
+static struct outcome call_wide_unrank_any(void)
+{
+    bool allowed = coin();
+    uint64_t k = wide_degree(), r = wide_rank(false, 128, k);
+    fresh(0);
+    ready();
+    return (struct outcome){gudrenoss_wide_unrank_any(allowed, k, r, &value[0].value, &value[1].value),
+        model_wide_unrank_any(allowed, k, r)};
+}
+
+static struct outcome call_wide_successor(void)
+{
+    struct wide_index x = wide_index();
+    fresh(0);
+    ready();
+    return (struct outcome){gudrenoss_wide_successor(x.allowed, x.low, x.high, &value[0].value, &value[1].value),
+        model_wide_successor(x)};
+}
+
+static struct outcome call_wide_merge(void)
+{
+    struct wide_index x = wide_index(), y = coin() ? few_wide(x.allowed) : some_wide(x.allowed);
+    if (below(2)) {
+        y.low &= ~x.low;
+        y.high &= ~x.high;
+    }
+    if (below(16) == 0)
+        y.allowed = !y.allowed;
+    fresh(0);
+    ready();
+    return (struct outcome){gudrenoss_wide_merge(x.allowed, x.low, x.high, y.allowed, y.low, y.high, &flag.value, &value[0].value,
+                                &value[1].value), model_wide_merge(x, y)};
+}
+
+static struct outcome call_wide_delete(void)
+{
+    struct wide_index x = wide_index();
+    uint64_t p = below(3) == 0 ? number(128) : below(2) ? below(10) : below(129);
+    fresh(0);
+    ready();
+    return (struct outcome){gudrenoss_wide_delete(x.allowed, x.low, x.high, p, &flag.value, &value[0].value, &value[1].value,
+                                &value[2].value), model_wide_delete(x, p)};
+}
+
 /* ---- The run ---------------------------------------------------------------------------------------------------------------- */
 
 struct target {
@@ -1265,6 +1443,8 @@ static struct target targets[] = {
     TARGET(exponents_add),
     TARGET(derivative),
     TARGET(lex_rank), TARGET(lex_unrank), TARGET(lex_successor), TARGET(lex_to_colex), TARGET(lex_from_colex),
+    TARGET(wide_count), TARGET(wide_rank), TARGET(wide_rank_of), TARGET(wide_unrank), TARGET(wide_unrank_over),
+    TARGET(wide_unrank_any), TARGET(wide_successor), TARGET(wide_merge), TARGET(wide_delete),
     TARGET(image_check), TARGET(image_row), TARGET(image_lookup), TARGET(image_at), TARGET(image_write), TARGET(pieces),
     TARGET(join), TARGET(mass),
 };

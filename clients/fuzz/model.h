@@ -13,13 +13,19 @@ struct answer {
     size_t values;
     uint64_t value[5];
     size_t len;
-    uint64_t list[64];
+    uint64_t list[128];
 };
 
 /* An index as it is passed: any numbers. */
 struct index {
     bool allowed;
     uint64_t n, bits;
+};
+
+/* A wide index: any halves are one. */
+struct wide_index {
+    bool allowed;
+    uint64_t low, high;
 };
 
 struct answer model_version(void);
@@ -98,5 +104,15 @@ struct answer model_lex_rank(bool allowed, uint64_t n, const uint64_t *word, siz
 struct answer model_lex_unrank(bool allowed, uint64_t n, uint64_t k, uint64_t r, size_t room);
 struct answer model_lex_successor(bool allowed, uint64_t n, const uint64_t *word, size_t len, size_t room);
 struct answer model_lex_converted(bool back, bool allowed, uint64_t n, uint64_t k, const uint64_t *body, size_t bytes, size_t room);
+
+struct answer model_wide_count(bool allowed, uint64_t n, uint64_t k);
+struct answer model_wide_rank(bool allowed, const uint64_t *word, size_t len);
+struct answer model_wide_rank_of(struct wide_index x);
+struct answer model_wide_unrank(bool allowed, uint64_t n, uint64_t k, uint64_t r, size_t room);
+struct answer model_wide_unrank_over(bool allowed, uint64_t n, uint64_t k, uint64_t r);
+struct answer model_wide_unrank_any(bool allowed, uint64_t k, uint64_t r);
+struct answer model_wide_successor(struct wide_index x);
+struct answer model_wide_merge(struct wide_index left, struct wide_index right);
+struct answer model_wide_delete(struct wide_index x, uint64_t p);
 
 #endif
