@@ -1245,7 +1245,8 @@ static struct outcome call_mass(void)
 /* A wide index: any halves, one half empty or full, or a few bits on both sides of the seam. */
 static struct wide_index some_wide(bool allowed)
 {
-    struct wide_index x = {allowed, bits(), bits()};
+    struct wide_index x = {allowed, bits(), 0};
+    x.high = bits();
     switch (below(8)) {
     case 0: x.high = 0; break;
     case 1: x.low = 0; break;
@@ -1261,8 +1262,10 @@ static struct wide_index some_wide(bool allowed)
 static struct wide_index few_wide(bool allowed)
 {
     struct wide_index x = {allowed, 0, 0};
-    for (uint64_t k = below(16); k > 0; k--)
-        *(coin() ? &x.low : &x.high) |= (uint64_t)1 << below(64);
+    for (uint64_t k = below(16); k > 0; k--) {
+        uint64_t *half = coin() ? &x.low : &x.high;
+        *half |= (uint64_t)1 << below(64);
+    }
     return x;
 }
 
@@ -1321,8 +1324,10 @@ static void put_wide_word(struct list *l, bool allowed)
     if (below(32) == 0)
         for (uint64_t longer = below(12); longer > 0; longer--, l->len++)
             at(l)[l->len] = 128 + below(3);
-    if (l->len > 0 && below(4) == 0)
-        at(l)[below(l->len)] = number(128);
+    if (l->len > 0 && below(4) == 0) {
+        uint64_t p = below(l->len);
+        at(l)[p] = number(128);
+    }
     if (l->len > 0 && below(8) == 0)
         at(l)[l->len - 1] += below(4);
 }

@@ -5,7 +5,7 @@
 --   family-read, number-read    at the place of a family or a number among the words, that family and that number are read
 --   list-read    a list that runs to the end is read whole
 --   lists-read    two lists about a `/` are read whole, the first up to it and the second after it
---   end-fits, family-fits, number-fits, slash-fits, here-fits, nowhere-fits, raw-fits, list-fits    the words that fit a pattern: none at its end, then by its first letter a family, a number, the `/`, `here`, `nowhere`, `raw`, or 80 numbers at most, and after them what fits the rest
+--   end-fits, family-fits, number-fits, slash-fits, here-fits, nowhere-fits, raw-fits, list-fits    the words that fit a pattern: none at its end, then by its first letter a family, a number, the `/`, `here`, `nowhere`, `raw`, or as many numbers as its list has at most, and after them what fits the rest
 use mathlib.Core.Bool.{Bool, true, false}
 use mathlib.Core.Path.{_≡_, refl, sym, ap, ap₂, subst, _∙_}
 use mathlib.Core.Logic.{_⊎_, inl, inr}
@@ -28,7 +28,7 @@ use Rattle.requests.specs.declared.Rest.the-variants as taken
 use Rattle.requests.specs.Protocol.{textsFrom, LineWord, number, family, slash, here, nowhere, raw, Spells, AllSpell, Lent, enough, places, Opens, Asks}
 use Rattle.requests.specs.Parts.{BeginsAt, Begins, kindsOf, valuesOf, TakesAll, Takes, familyAt}
 use Rattle.requests.specs.Patterns.{numbersIn, fitsPattern}
-use Rattle.requests.proofs.Fitting.{fits-list}
+use Rattle.requests.proofs.Fitting.{Lists}
 
 -- ---- one reading
 
@@ -248,12 +248,13 @@ numbers-first (here ∷ xs) = ([], here ∷ xs, refl, refl, refl)
 numbers-first (nowhere ∷ xs) = ([], nowhere ∷ xs, refl, refl, refl)
 numbers-first (raw ∷ xs) = ([], raw ∷ xs, refl, refl, refl)
 
-pub list-fits : (p : List ℕ) (xs : List LineWord) → fitsPattern (42 ∷ p) (kindsOf xs) ≡ true → (w : List ℕ) × (ys : List LineWord) × (xs ≡ map number w ++ ys) × (length w ≤ 80) × (fitsPattern p (kindsOf ys) ≡ true)
-list-fits p xs e = go (ltb 80 (numbersIn (kindsOf xs))) refl (numbers-first xs)
+pub list-fits : (m l : ℕ) → Lists m l → (p : List ℕ) (xs : List LineWord) → fitsPattern (l ∷ p) (kindsOf xs) ≡ true
+    → (w : List ℕ) × (ys : List LineWord) × (xs ≡ map number w ++ ys) × (length w ≤ m) × (fitsPattern p (kindsOf ys) ≡ true)
+list-fits m l f p xs e = go (ltb m (numbersIn (kindsOf xs))) refl (numbers-first xs)
   where
-    go : (t : Bool) → ltb 80 (numbersIn (kindsOf xs)) ≡ t
+    go : (t : Bool) → ltb m (numbersIn (kindsOf xs)) ≡ t
         → (w : List ℕ) × (ys : List LineWord) × (xs ≡ map number w ++ ys) × (length w ≡ numbersIn (kindsOf xs)) × (drop (numbersIn (kindsOf xs)) (kindsOf xs) ≡ kindsOf ys)
-        → (w : List ℕ) × (ys : List LineWord) × (xs ≡ map number w ++ ys) × (length w ≤ 80) × (fitsPattern p (kindsOf ys) ≡ true)
-    go true d t = never (sym (fits-list p (kindsOf xs) ∙ (simp d)) ∙ e)
+        → (w : List ℕ) × (ys : List LineWord) × (xs ≡ map number w ++ ys) × (length w ≤ m) × (fitsPattern p (kindsOf ys) ≡ true)
+    go true d t = never (sym (f p (kindsOf xs) ∙ (simp d)) ∙ e)
     go false d t =
-        (t .0, t .1, t .2, omega (arith, t .3, ltb-false 80 (numbersIn (kindsOf xs)) d), ap (fitsPattern p) (sym (t .4)) ∙ sym (fits-list p (kindsOf xs) ∙ (simp d)) ∙ e)
+        (t .0, t .1, t .2, omega (arith, t .3, ltb-false m (numbersIn (kindsOf xs)) d), ap (fitsPattern p) (sym (t .4)) ∙ sym (f p (kindsOf xs) ∙ (simp d)) ∙ e)

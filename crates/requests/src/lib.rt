@@ -7,7 +7,7 @@ ghost use lib.ListN.{length, take, drop, getD};
 ghost use Rattle.text.specs.Text.{Found};
 ghost use Rattle.requests.specs.Protocol.{textsFrom};
 ghost use Rattle.requests.specs.Parts.{Begins, VerbAt, AfterRoom, KindOf, TakenIn, Takes, familyAt};
-ghost use Rattle.requests.specs.Patterns.{standsFor, numbersIn, fitsPattern, After, Wants};
+ghost use Rattle.requests.specs.Patterns.{standsFor, numbersIn, fitsPattern, afterList, After, Wants};
 use text::Named;
 use text::Number;
 use words::Family;
@@ -150,12 +150,12 @@ fn after_numbers(kinds: &[u8], i: usize) -> usize
     to
 }
 
-// The place after the list at place i, or a place past the end if it has more than 80 numbers.
-fn after_list(kinds: &[u8], i: usize) -> usize
-    ensures { λ r. ⌜ After (now (kinds .entry)) i 42 r ⌝ }
+// The place after the list at place i, or a place past the end if it has more than the most numbers.
+fn after_list(kinds: &[u8], i: usize, most: usize) -> usize
+    ensures { λ r. ⌜ r ≡ afterList (now (kinds .entry)) i most ⌝ }
 {
     let to = after_numbers(kinds, i);
-    if to - i > 80 {
+    if to - i > most {
         return kinds.len() + 1;
     }
     to
@@ -179,7 +179,10 @@ fn after(kinds: &[u8], i: usize, letter: u8) -> usize
     ensures { λ r. ⌜ After (now (kinds .entry)) i letter r ⌝ }
 {
     if letter == b'*' {
-        return after_list(kinds, i);
+        return after_list(kinds, i, 80);
+    }
+    if letter == b'W' {
+        return after_list(kinds, i, 140);
     }
     if i >= kinds.len() {
         return kinds.len() + 1;
@@ -190,7 +193,7 @@ fn after(kinds: &[u8], i: usize, letter: u8) -> usize
     kinds.len() + 1
 }
 
-// Whether the words are those of a pattern: F a family, * a list of numbers, any other letter a word of that kind.
+// Whether the words are those of a pattern: F a family, * a list of numbers, W a longer one, any other letter a word of that kind.
 fn are(kinds: &[u8], pattern: &[u8]) -> bool
     ensures { λ r. ⌜ r ≡ fitsPattern (now (pattern .entry)) (now (kinds .entry)) ⌝ }
 {
