@@ -2,4 +2,5 @@
 #ifndef BARE_STDIO_H
 #define BARE_STDIO_H
 int printf(const char *format, ...);
+int getchar(void);
 #endif

@@ -1,13 +1,13 @@
 /* fuzz CALLS [SEED [NAME]]: calls every function of the library with structured and random values, and compares what it gives back, every
  * place that it may write, every place around those, and every list that it reads with the model. It prints for each function how
- * many calls were answers and how many refusals, by number; its last line is 'N calls, 0 broken', and its exit status then 0. With a
- * name all calls are of that one function. */
+ * many calls were answers and how many refusals, by number, and a digest of all that the library gave, which is the same on every processor;
+ * its last line is 'N calls, 0 broken', and its exit status then 0. With a name all calls are of that one function. */
 #include "model.h"
 
 #include <stdio.h>
 #include <string.h>
 
-/* ---- Random numbers (splitmix64) -------------------------------------------------------------------------------------------- */
+/* ---- Random numbers (splitmix64): two are never drawn in one expression whose order C leaves open, so that a seed tells all ------ */
 
 static uint64_t state;
 
@@ -32,9 +32,10 @@ static bool coin(void)
 /* Mostly a small number, sometimes one near `edge`, near a power of two, or any. */
 static uint64_t number(uint64_t edge)
 {
+    uint64_t power;
     switch (below(8)) {
     case 0: return edge - 3 + below(7);
-    case 1: return ((uint64_t)1 << below(64)) - 1 + below(3);
+    case 1: power = (uint64_t)1 << below(64); return power - 1 + below(3);
     case 2: return below(4) == 0 ? UINT64_MAX - below(3) : any();
     case 3: return below(edge + 2);
     default: return below(7);
@@ -84,7 +85,8 @@ static struct index index_with(bool allowed, uint64_t b)
 
 static struct index some_index(void)
 {
-    return index_with(coin(), bits());
+    bool allowed = coin();
+    return index_with(allowed, bits());
 }
 
 /* ---- Guarded memory --------------------------------------------------------------------------------------------------------- */
@@ -205,8 +207,10 @@ static void put_word(struct list *l, bool allowed)
         at(l)[i] = symbol;
         symbol += allowed ? below(step) : 1 + below(step);
     }
-    if (l->len > 0 && below(4) == 0)
-        at(l)[below(l->len)] = number(64);
+    if (l->len > 0 && below(4) == 0) {
+        size_t i = below(l->len);
+        at(l)[i] = number(64);
+    }
     if (below(16) == 0)
         for (size_t i = 0; i < l->len; i++)
             at(l)[i] = number(64);
@@ -245,15 +249,19 @@ static gudrenoss_permutation permutation(uint64_t len)
     if (len < 64 && below(16) == 0)
         for (size_t i = len; i < 64; i++)
             p.entries[i] = number(64);
-    if (len < 64 && below(16) == 0)
-        p.entries[len + below(64 - len)] = number(64);
+    if (len < 64 && below(16) == 0) {
+        size_t i = len + below(64 - len);
+        p.entries[i] = number(64);
+    }
     if (len <= 64 && below(16) != 0)
         shuffle(p.entries, len);
     if (len <= 64 && len > 1 && below(8) == 0)
         for (size_t i = 0; i < len; i++)
             p.entries[i] = len - 1 - i;
-    if (len > 0 && below(8) == 0)
-        p.entries[below(len < 64 ? len : 64)] = number(64);
+    if (len > 0 && below(8) == 0) {
+        size_t i = below(len < 64 ? len : 64);
+        p.entries[i] = number(64);
+    }
     return p;
 }
 
@@ -512,7 +520,8 @@ static struct outcome call_complement(void)
 
 static struct outcome call_stabilizer(void)
 {
-    struct index x = index_with(below(4) != 0, bits());
+    bool allowed = below(4) != 0;
+    struct index x = index_with(allowed, bits());
     fresh(0);
     ready();
     return (struct outcome){gudrenoss_stabilizer(x.allowed, x.n, x.bits, &value[0].value), model_stabilizer(x)};
@@ -544,7 +553,8 @@ static struct outcome call_set_position(void)
 
 static struct outcome call_set_select(void)
 {
-    uint64_t set = bits(), positions = bits() >> (below(2) ? 0 : below(64));
+    uint64_t set = bits(), positions = bits();
+    positions >>= below(2) ? 0 : below(64);
     fresh(0);
     ready();
     return (struct outcome){gudrenoss_set_select(set, positions, &value[0].value), model_set_select(set, positions)};
@@ -969,7 +979,7 @@ static void damage(void)
     case 3: bytes_at(&image)[at] ^= (uint8_t)(1 << below(8)); break;
     case 4: put_number(bytes_at(&image) + row + 4, number(65536), 4); break;
     case 5: put_number(bytes_at(&image) + row + 8, number(65536), 4); break;
-    case 6: bytes_at(&image)[row + below(4)] = (uint8_t)number(64); break;
+    case 6: row += below(4); bytes_at(&image)[row] = (uint8_t)number(64); break;
     default: bytes_at(&image)[row] = bytes_at(&image)[4], bytes_at(&image)[row + 1] = bytes_at(&image)[5];
     }
 }
@@ -1074,7 +1084,8 @@ static struct outcome call_image_write(void)
     part.len = image.len - split;
     for (size_t i = 0; i < part.len; i++)
         bytes_at(&part)[i] = bytes_at(&image)[split + i];
-    filled.len = below(4) == 0 ? below(image.len + 1) : image.len + (image.len < 65900 ? below(9) : 0) - (image.len > 0 && below(4) == 0);
+    size_t less = image.len > 0 && below(4) == 0;
+    filled.len = below(4) == 0 ? below(image.len + 1) : image.len + (image.len < 65900 ? below(9) : 0) - less;
     image.len = split;
     fresh(0);
     ready();
@@ -1427,32 +1438,42 @@ static struct outcome call_wide_delete(void)
 
 struct target {
     const char *name;
-    struct outcome (*call)(void);
     uint64_t given[15], broken; /* how often each refusal was given, 0 for an answer */
 };
 
-#define TARGET(name) {#name, call_##name, {0}, 0}
+/* The functions, by name. None is called through a pointer, for which WebAssembly wants a table that not every engine has. */
+#define TARGETS \
+    TARGET(version) \
+    TARGET(count) TARGET(pack) TARGET(unpack) TARGET(degree) TARGET(symbol) TARGET(rank) TARGET(rank_of) \
+    TARGET(unrank) TARGET(unrank_over) TARGET(unrank_any) TARGET(successor) TARGET(walk_start) TARGET(walk_step) \
+    TARGET(canonicalise) TARGET(merge) TARGET(delete) TARGET(complement) TARGET(stabilizer) \
+    TARGET(set_insert) TARGET(set_contains) TARGET(set_position) TARGET(set_select) \
+    TARGET(permutation_image) TARGET(permutation_inverse) TARGET(permutation_compose) TARGET(permutation_sign) \
+    TARGET(permutation_rank) TARGET(permutation_unrank) TARGET(permutation_successor) \
+    TARGET(shape_count) TARGET(shape_strides) TARGET(shape_linearize) TARGET(shape_delinearize) TARGET(shape_corner) \
+    TARGET(digits_count) TARGET(digits_from_symbols) TARGET(digits_symbols) TARGET(digits_symbol) \
+    TARGET(digits_multiplicity) TARGET(digits_stabilizer) TARGET(digits_concat) TARGET(digits_delete) \
+    TARGET(exponents_word) TARGET(exponents_from_word) TARGET(exponents_rank) TARGET(exponents_from_rank) \
+    TARGET(exponents_add) \
+    TARGET(derivative) \
+    TARGET(lex_rank) TARGET(lex_unrank) TARGET(lex_successor) TARGET(lex_to_colex) TARGET(lex_from_colex) \
+    TARGET(wide_count) TARGET(wide_rank) TARGET(wide_rank_of) TARGET(wide_unrank) TARGET(wide_unrank_over) \
+    TARGET(wide_unrank_any) TARGET(wide_successor) TARGET(wide_merge) TARGET(wide_delete) \
+    TARGET(image_check) TARGET(image_row) TARGET(image_lookup) TARGET(image_at) TARGET(image_write) TARGET(pieces) \
+    TARGET(join) TARGET(mass)
 
-static struct target targets[] = {
-    TARGET(version),
-    TARGET(count), TARGET(pack), TARGET(unpack), TARGET(degree), TARGET(symbol), TARGET(rank), TARGET(rank_of),
-    TARGET(unrank), TARGET(unrank_over), TARGET(unrank_any), TARGET(successor), TARGET(walk_start), TARGET(walk_step),
-    TARGET(canonicalise), TARGET(merge), TARGET(delete), TARGET(complement), TARGET(stabilizer),
-    TARGET(set_insert), TARGET(set_contains), TARGET(set_position), TARGET(set_select),
-    TARGET(permutation_image), TARGET(permutation_inverse), TARGET(permutation_compose), TARGET(permutation_sign),
-    TARGET(permutation_rank), TARGET(permutation_unrank), TARGET(permutation_successor),
-    TARGET(shape_count), TARGET(shape_strides), TARGET(shape_linearize), TARGET(shape_delinearize), TARGET(shape_corner),
-    TARGET(digits_count), TARGET(digits_from_symbols), TARGET(digits_symbols), TARGET(digits_symbol),
-    TARGET(digits_multiplicity), TARGET(digits_stabilizer), TARGET(digits_concat), TARGET(digits_delete),
-    TARGET(exponents_word), TARGET(exponents_from_word), TARGET(exponents_rank), TARGET(exponents_from_rank),
-    TARGET(exponents_add),
-    TARGET(derivative),
-    TARGET(lex_rank), TARGET(lex_unrank), TARGET(lex_successor), TARGET(lex_to_colex), TARGET(lex_from_colex),
-    TARGET(wide_count), TARGET(wide_rank), TARGET(wide_rank_of), TARGET(wide_unrank), TARGET(wide_unrank_over),
-    TARGET(wide_unrank_any), TARGET(wide_successor), TARGET(wide_merge), TARGET(wide_delete),
-    TARGET(image_check), TARGET(image_row), TARGET(image_lookup), TARGET(image_at), TARGET(image_write), TARGET(pieces),
-    TARGET(join), TARGET(mass),
-};
+#define TARGET(name) {#name, {0}, 0},
+static struct target targets[] = {TARGETS};
+#undef TARGET
+
+static struct outcome call(const struct target *t)
+{
+    const struct target *next = targets;
+#define TARGET(name) if (t == next++) return call_##name();
+    TARGETS
+#undef TARGET
+    return (struct outcome){{0, 0}, {.refusal = 99}};
+}
 
 /* The decimal number in text, or 0 where it is none. */
 static uint64_t parse(const char *text)
@@ -1473,11 +1494,32 @@ static void print_grouped(uint64_t n)
     }
 }
 
+/* All that the calls gave, in one number. */
+static uint64_t digest = UINT64_C(0xcbf29ce484222325);
+
+static void told(uint64_t n)
+{
+    digest = (digest ^ n) * UINT64_C(0x100000001b3);
+    digest ^= digest >> 32;
+}
+
+static void tell(gudrenoss_refusal refusal)
+{
+    told(refusal.number);
+    told(refusal.at);
+    told(flag.value);
+    for (size_t i = 0; i < values; i++)
+        told(value[i].value);
+    for (size_t i = 0; i < most; i++)
+        told(at(&out)[i]);
+}
+
 /* One call, from a seed of its own, so that a broken one can be made again. */
 static void run(struct target *t, uint64_t seed)
 {
     state = seed;
-    struct outcome o = t->call();
+    struct outcome o = call(t);
+    tell(o.refusal);
     if (agrees(o.refusal, &o.model)) {
         t->given[o.refusal.number]++;
     } else if (t->broken++ == 0) {
@@ -1527,6 +1569,7 @@ int main(int argc, char **argv)
         print_target(&targets[i]);
         broken += targets[i].broken;
     }
+    printf("digest %08x%08x\n", (unsigned)(digest >> 32), (unsigned)digest);
     print_grouped(calls);
     printf(" calls, ");
     print_grouped(broken);
