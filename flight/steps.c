@@ -1,6 +1,8 @@
 /* How many x86-64 instructions each export runs, counted one by one: a child makes the calls and marks each by two traps, the parent steps it from the first
  * trap to the second. What is counted is the whole call, its arguments and its return included. For each export the greatest count over its inputs is printed,
- * with the input that gave it. The inputs are the extremes of each call and random ones from a fixed seed; they are listed by the functions below. */
+ * with the input that gave it. The inputs are the extremes of each call and random ones from a fixed seed; they are listed by the functions below.
+ * With MARKS defined, for another processor, nobody steps: the calls stand between two functions that an emulator's trace names, and the names of the exports are
+ * printed in the order in which they were called (flight/ported). */
 #define _GNU_SOURCE
 #include "gudrenoss.h"
 
@@ -9,12 +11,37 @@
 #include <stdio.h>
 #include <stdlib.h>
 #include <string.h>
+#include <unistd.h>
+#ifndef MARKS
 #include <sys/mman.h>
 #include <sys/ptrace.h>
 #include <sys/wait.h>
-#include <unistd.h>
+#endif
 
 #define GREATEST UINT64_MAX
+
+#ifdef MARKS
+enum { most_calls = 1 << 17 };
+
+static const char *called[most_calls], *name_now;
+static size_t calls;
+
+__attribute__((noinline)) void steps_begin(void)
+{
+    __asm__ volatile("" ::: "memory");
+}
+
+__attribute__((noinline)) void steps_end(void)
+{
+    __asm__ volatile("" ::: "memory");
+}
+
+#define about(name, ...) (name_now = (name))
+#define TRAP_BEFORE (called[calls++] = name_now, steps_begin())
+#define TRAP_AFTER steps_end()
+#else
+#define TRAP_BEFORE __asm__ volatile("int3" ::: "memory")
+#define TRAP_AFTER __asm__ volatile("int3" ::: "memory")
 
 /* What the child says of the call that it is about to make. */
 struct label {
@@ -32,15 +59,16 @@ static void about(const char *name, const char *format, ...)
     vsnprintf(said->input, sizeof said->input, format, rest);
     va_end(rest);
 }
+#endif
 
 static volatile uint64_t kept;
 
 /* One call between two traps. */
 #define CALL(call)                                 \
     do {                                           \
-        __asm__ volatile("int3" ::: "memory");     \
+        TRAP_BEFORE;                               \
         gudrenoss_refusal came_back = (call);      \
-        __asm__ volatile("int3" ::: "memory");     \
+        TRAP_AFTER;                                \
         kept = came_back.number + came_back.at;    \
     } while (0)
 
@@ -502,10 +530,8 @@ static void images(void)
     }
 }
 
-static void child(void)
+static void all(void)
 {
-    ptrace(PTRACE_TRACEME, 0, 0, 0);
-    raise(SIGSTOP);
     version();
     terms();
     old_tables();
@@ -518,6 +544,23 @@ static void child(void)
     exponents();
     derivatives();
     images();
+}
+
+#ifdef MARKS
+int main(void)
+{
+    all();
+    for (size_t i = 0; i < calls; i++) {
+        puts(called[i]);
+    }
+    return 0;
+}
+#else
+static void child(void)
+{
+    ptrace(PTRACE_TRACEME, 0, 0, 0);
+    raise(SIGSTOP);
+    all();
     _exit(0);
 }
 
@@ -586,3 +629,4 @@ int main(void)
     }
     return 0;
 }
+#endif
