@@ -190,18 +190,32 @@ fn put_terms(out: &mut [u8], at: usize, r: Table) -> usize {
 
 // ---- the list of a good image
 
-// The line of table i.
-fn put_table(out: &mut [u8], at: usize, list: &[u8], i: u64) -> usize {
-    let r = table_of(list, i);
+// Two numbers, each at the right end of its column.
+fn put_both(out: &mut [u8], at: usize, m: u64, n: u64) -> usize {
+    let at = put_right(out, at, m);
+    put_right(out, at, n)
+}
+
+// Table i by its number, its family, its degree and its alphabet.
+fn put_kind(out: &mut [u8], at: usize, i: u64, r: Table) -> usize {
     let at = put_right(out, at, i);
     let f = r.family;
     let at = put_name(out, at, f);
-    let at = put_right(out, at, r.degree);
-    let at = put_right(out, at, r.alphabet);
-    let at = put_right(out, at, r.offset);
-    let at = put_right(out, at, r.entries);
+    put_both(out, at, r.degree, r.alphabet)
+}
+
+// Where its body begins, how many entries it has, and for which terms.
+fn put_body(out: &mut [u8], at: usize, r: Table) -> usize {
+    let at = put_both(out, at, r.offset, r.entries);
     let at = text::put_byte(out, at, b' ');
-    let at = put_terms(out, at, r);
+    put_terms(out, at, r)
+}
+
+// The line of table i.
+fn put_table(out: &mut [u8], at: usize, list: &[u8], i: u64) -> usize {
+    let r = table_of(list, i);
+    let at = put_kind(out, at, i, r);
+    let at = put_body(out, at, r);
     text::put_byte(out, at, b'\n')
 }
 
@@ -225,43 +239,79 @@ fn put_counted(out: &mut [u8], at: usize, n: u64, one: &[u8], many: &[u8]) -> us
     text::put(out, at, many)
 }
 
-// The list of the tables of a good image of so many bytes, whose first bytes are given.
-pub fn put_contents(out: &mut [u8], at: usize, list: &[u8], size: u64) -> usize {
-    let t = tables(list);
+// What an image is: so many tables, in so many bytes.
+fn put_size(out: &mut [u8], at: usize, tables: u64, size: u64) -> usize {
     let at = text::put(out, at, b"good image: ");
-    let at = put_counted(out, at, t, b" table", b" tables");
+    let at = put_counted(out, at, tables, b" table", b" tables");
     let at = text::put(out, at, b", ");
-    let at = put_counted(out, at, size, b" byte", b" bytes");
-    let at = text::put(
+    put_counted(out, at, size, b" byte", b" bytes")
+}
+
+// The names of the columns.
+fn put_columns(out: &mut [u8], at: usize) -> usize {
+    text::put(
         out,
         at,
         b"\n     table     family    degree  alphabet    offset   entries  terms by rank\n",
-    );
+    )
+}
+
+// The list of the tables of a good image of so many bytes, whose first bytes are given.
+pub fn put_contents(out: &mut [u8], at: usize, list: &[u8], size: u64) -> usize {
+    let t = tables(list);
+    let at = put_size(out, at, t, size);
+    let at = put_columns(out, at);
     put_tables(out, at, list, t)
 }
 
 // ---- what is wrong
 
-fn put_degree(out: &mut [u8], at: usize, list: &[u8], i: u64, r: Table) -> usize {
-    let at = text::put(out, at, b"degree ");
-    let at = text::put_number(out, at, r.degree);
-    if r.degree > 64 {
-        return text::put(out, at, b" is above 64");
-    }
-    let at = text::put(out, at, b" stands in table ");
-    let at = text::put_number(out, at, same_above(list, i));
-    text::put(out, at, b" already")
+fn put_family(out: &mut [u8], at: usize, family: u64) -> usize {
+    phrases::around(
+        out,
+        at,
+        b"family ",
+        family,
+        b" is neither 0 (forbidden) nor 1 (allowed)",
+    )
 }
 
-fn put_alphabet(out: &mut [u8], at: usize, r: Table) -> usize {
-    let at = text::put(out, at, b"alphabet ");
-    let at = text::put_number(out, at, r.alphabet);
-    if r.alphabet > 64 {
+fn put_degree(out: &mut [u8], at: usize, list: &[u8], i: u64, degree: u64) -> usize {
+    let at = phrases::with_number(out, at, b"degree ", degree);
+    if degree > 64 {
         return text::put(out, at, b" is above 64");
     }
-    let at = text::put(out, at, b" is too wide for degree ");
-    let at = text::put_number(out, at, r.degree);
-    text::put(out, at, b": together they may be 65")
+    let above = same_above(list, i);
+    phrases::around(out, at, b" stands in table ", above, b" already")
+}
+
+fn put_alphabet(out: &mut [u8], at: usize, alphabet: u64, degree: u64) -> usize {
+    let at = phrases::with_number(out, at, b"alphabet ", alphabet);
+    if alphabet > 64 {
+        return text::put(out, at, b" is above 64");
+    }
+    phrases::around(
+        out,
+        at,
+        b" is too wide for degree ",
+        degree,
+        b": together they may be 65",
+    )
+}
+
+fn put_after_alphabet(out: &mut [u8], at: usize, found: u64) -> usize {
+    phrases::around(
+        out,
+        at,
+        b"the byte after the alphabet is ",
+        found,
+        b" and not 0",
+    )
+}
+
+fn put_offset(out: &mut [u8], at: usize, offset: u64, wanted: u64) -> usize {
+    let at = phrases::with_number(out, at, b"offset ", offset);
+    phrases::with_number(out, at, b" should be ", wanted)
 }
 
 // The number of terms that the table of a row has, by the library's count; 0 where that is refused.
@@ -291,24 +341,11 @@ fn put_field(out: &mut [u8], at: usize, list: &[u8], i: u64, within: u64) -> usi
     let r = table_of(list, i);
     let place = row_place(i);
     match within {
-        0 => {
-            let at = text::put(out, at, b"family ");
-            let at = text::put_number(out, at, byte(list, place));
-            text::put(out, at, b" is neither 0 (forbidden) nor 1 (allowed)")
-        }
-        1 => put_degree(out, at, list, i, r),
-        2 => put_alphabet(out, at, r),
-        3 => {
-            let at = text::put(out, at, b"the byte after the alphabet is ");
-            let at = text::put_number(out, at, byte(list, place + 3));
-            text::put(out, at, b" and not 0")
-        }
-        4 => {
-            let at = text::put(out, at, b"offset ");
-            let at = text::put_number(out, at, r.offset);
-            let at = text::put(out, at, b" should be ");
-            text::put_number(out, at, body_place(list, i))
-        }
+        0 => put_family(out, at, byte(list, place)),
+        1 => put_degree(out, at, list, i, r.degree),
+        2 => put_alphabet(out, at, r.alphabet, r.degree),
+        3 => put_after_alphabet(out, at, byte(list, place + 3)),
+        4 => put_offset(out, at, r.offset, body_place(list, i)),
         _ => put_entries(out, at, r),
     }
 }
@@ -319,16 +356,39 @@ fn put_short(out: &mut [u8], at: usize, list: &[u8], size: u64) -> usize {
         return text::put(out, at, b"the image ends in its number of tables");
     }
     let t = tables(list);
-    if size < 4 + 12 * t {
-        let at = text::put(
+    let bodies = 4 + 12 * t;
+    if size < bodies {
+        return phrases::with_number(
             out,
             at,
             b"the image ends in its contents list, which ends at byte ",
+            bodies,
         );
-        return text::put_number(out, at, 4 + 12 * t);
     }
-    let at = text::put(out, at, b"the image ends in its bodies, which end at byte ");
-    text::put_number(out, at, body_place(list, t))
+    let end = body_place(list, t);
+    phrases::with_number(
+        out,
+        at,
+        b"the image ends in its bodies, which end at byte ",
+        end,
+    )
+}
+
+// What is wrong with the number of tables.
+fn put_number(out: &mut [u8], at: usize, tables: u64) -> usize {
+    phrases::around(
+        out,
+        at,
+        b"the number of tables is ",
+        tables,
+        b" and not 1 to 64",
+    )
+}
+
+// What is wrong with row i, in the field that begins at byte `within` of it.
+fn put_row(out: &mut [u8], at: usize, list: &[u8], i: u64, within: u64) -> usize {
+    let at = phrases::around(out, at, b"table ", i, b": ");
+    put_field(out, at, list, i, within)
 }
 
 // What is wrong with an image of `size` bytes that is refused at an offset, given its first bytes.
@@ -337,17 +397,8 @@ pub fn put_fault(out: &mut [u8], at: usize, list: &[u8], size: u64, offset: u64)
         return put_short(out, at, list, size);
     }
     match place_of(tables(list), offset) {
-        Place::Number => {
-            let at = text::put(out, at, b"the number of tables is ");
-            let at = text::put_number(out, at, four(list, 0));
-            text::put(out, at, b" and not 1 to 64")
-        }
-        Place::Row(i, within) => {
-            let at = text::put(out, at, b"table ");
-            let at = text::put_number(out, at, i);
-            let at = text::put(out, at, b": ");
-            put_field(out, at, list, i, within)
-        }
+        Place::Number => put_number(out, at, four(list, 0)),
+        Place::Row(i, within) => put_row(out, at, list, i, within),
         Place::Behind => text::put(out, at, b"the bodies end here, and more bytes follow"),
     }
 }
