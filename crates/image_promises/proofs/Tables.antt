@@ -21,7 +21,7 @@ use Rattle.answers.specs.Says.{Says, refuses, gives, andThen}
 use Rattle.image_rules.specs.Image.{familyAt, degreeAt, alphabetAt, offsetAt, entriesAt, familyOfByte, occurs, bodyPlace, imageSays}
 use Rattle.image_rules.proofs.Good.{Good, good-exactly, bodies-rise}
 use Rattle.image_reading.specs.Reading.{numberOfFamily, findRow, numberSays, tableAt, rowSays}
-use Rattle.image_reading.proofs.Looking.{find-here, find-family, find-degree, find-none}
+use Rattle.image_reading.proofs.Looking.{find-here, find-family, find-degree, none-found, family-byte}
 
 -- ---- a row is found by its family and degree
 
@@ -57,11 +57,6 @@ find-own l size t i g h (suc n) a b =
         true-is-not-false (sym (occurs-there l i n p) ∙ ap (λ (f : ℕ). occurs l f (degreeAt l i) n) (sym x) ∙ ap (λ (k : ℕ). occurs l (familyAt l n) k n) (sym y)
         ∙ g .row n (omega arith) .fresh)
 
-family-byte : (b : ℕ) → b < 2 → numberOfFamily (familyOfByte b) ≡ b
-family-byte zero h = refl
-family-byte (suc zero) h = refl
-family-byte (suc (suc b)) h = absurd (omega arith)
-
 pub each-table-is-found : (l : List ℕ) (t i : ℕ) → imageSays l ≡ gives t → i < t → rowSays l (familyOfByte (familyAt l i)) (degreeAt l i) ≡ gives (tableAt l i)
 each-table-is-found l t i e h = ap (λ (s : Says ℕ). andThen s (λ (j : ℕ). gives (tableAt l j))) numbered
   where
@@ -75,15 +70,6 @@ each-table-is-found l t i e h = ap (λ (s : Says ℕ). andThen s (λ (j : ℕ). 
         ∙ find-own l (length l) t i g h t h (omega arith)
 
 -- ---- a family and degree that no row has
-
-none-found : (l : List ℕ) (f k n : ℕ) → ((i : ℕ) → i < n → familyAt l i ≡ f → degreeAt l i ≡ k → ⊥) → findRow l f k n ≡ refuses 12
-none-found l f k zero h = find-none l f k 0 refl
-none-found l f k (suc n) h = other (ℕ-discrete (familyAt l n) f) (ℕ-discrete (degreeAt l n) k) (none-found l f k n (λ i a x y. h i (omega arith) x y))
-  where
-    other : Dec (familyAt l n ≡ f) → Dec (degreeAt l n ≡ k) → findRow l f k n ≡ refuses 12 → findRow l f k (suc n) ≡ refuses 12
-    other (no x) d r = find-family l f k (suc n) n refl x ∙ r
-    other (yes x) (no y) r = find-degree l f k (suc n) n refl x y ∙ r
-    other (yes x) (yes y) r = absurd (h n (omega arith) x y)
 
 pub missing-is-twelve : (l : List ℕ) (F : Family) (k t : ℕ) → imageSays l ≡ gives t → ((i : ℕ) → i < t → familyAt l i ≡ numberOfFamily F → degreeAt l i ≡ k → ⊥)
     → rowSays l F k ≡ refuses 12

@@ -1,11 +1,14 @@
 -- Looking for the row of a table. Assumes nothing.
 --   find-here, find-family, find-degree, find-none    one turn of the search, from the last row up to the first
+--   none-found    where no row has a family and a degree, none is found
 --   Names l t f k i, found-of    row i of the first t has the family f and the degree k, where it is found
+--   family-byte    the byte of the family that a right byte stands for is that byte
 --   Given l F k i, row-given    what the row of a family and a degree has, in a good image
 use mathlib.Core.Path.{_≡_, refl, sym, ap, _∙_}
 use mathlib.Core.Bool.{Bool, true, false, _&&_}
 use mathlib.Core.List.{List}
 use Prim.Native.Nat.{ℕ, zero, suc, _+_, _*_, _≤_, _<_}
+use native.Mathlib.Decide.{ℕ-discrete}
 use native.Mathlib.Omega.{arith}
 use borrow.Author.Tests.{eqb-true, eq-eqb, ne-eqb}
 use lib.Dec.{eqb}
@@ -38,6 +41,15 @@ pub find-none : (l : List ℕ) (f k i : ℕ) → i ≡ 0 → findRow l f k i ≡
 unfolding findRow
 find-none l f k i e = ap (findRow l f k) e
 
+pub none-found : (l : List ℕ) (f k n : ℕ) → ((i : ℕ) → i < n → familyAt l i ≡ f → degreeAt l i ≡ k → ⊥) → findRow l f k n ≡ refuses 12
+none-found l f k zero h = find-none l f k 0 refl
+none-found l f k (suc n) h = other (ℕ-discrete (familyAt l n) f) (ℕ-discrete (degreeAt l n) k) (none-found l f k n (λ i a x y. h i (omega arith) x y))
+  where
+    other : Dec (familyAt l n ≡ f) → Dec (degreeAt l n ≡ k) → findRow l f k n ≡ refuses 12 → findRow l f k (suc n) ≡ refuses 12
+    other (no x) d r = find-family l f k (suc n) n refl x ∙ r
+    other (yes x) (no y) r = find-degree l f k (suc n) n refl x y ∙ r
+    other (yes x) (yes y) r = absurd (h n (omega arith) x y)
+
 pub record Names (l : List ℕ) (t f k i : ℕ) : Type 0 where
   pub below : i < t
   pub family : familyAt l i ≡ f
@@ -67,6 +79,11 @@ pub record Given (l : List ℕ) (F : Family) (k i : ℕ) : Type 0 where
 family-number : (F : Family) → familyOfByte (numberOfFamily F) ≡ F
 family-number Forbidden = refl
 family-number Allowed = refl
+
+pub family-byte : (b : ℕ) → b < 2 → numberOfFamily (familyOfByte b) ≡ b
+family-byte zero h = refl
+family-byte (suc zero) h = refl
+family-byte (suc (suc b)) h = absurd (omega arith)
 
 pub row-given : (l : List ℕ) (F : Family) (k i : ℕ) → numberSays l F k ≡ gives i → Given l F k i
 row-given l F k i e =

@@ -34,7 +34,7 @@ fn number_of(family: Family) -> u64
 }
 
 // The row, of the first t, that has the family f and the degree k: 12 if none has.
-fn find(s: &[u8], t: u64, f: u64, k: u64) -> Answer
+pub fn find(s: &[u8], t: u64, f: u64, k: u64) -> Answer
     requires { ⌜ (t ≤ 64) × (4 + 12 * t ≤ length (now s)) ⌝ }
     ensures { λ r. ⌜ answerSays r ≡ findRow (now (s .entry)) f k t ⌝ }
 {

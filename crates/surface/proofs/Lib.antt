@@ -1,0 +1,5 @@
+pub mod TwoSymbols
+pub mod Finite
+pub mod Rows
+pub mod Zero
+pub mod Examples

@@ -1,0 +1,2 @@
+pub mod Mass
+pub mod Surface
