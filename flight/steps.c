@@ -64,13 +64,16 @@ static void about(const char *name, const char *format, ...)
 static volatile uint64_t kept;
 
 /* One call between two traps. */
-#define CALL(call)                                 \
+#define CALL_GIVING(refusal, call)                 \
     do {                                           \
         TRAP_BEFORE;                               \
-        gudrenoss_refusal came_back = (call);      \
+        refusal came_back = (call);                \
         TRAP_AFTER;                                \
         kept = came_back.number + came_back.at;    \
     } while (0)
+
+#define CALL(call) CALL_GIVING(gudrenoss_refusal, call)
+#define CALL_ON_FRAME(call) CALL_GIVING(gudrenoss_frame_refusal, call)
 
 static uint64_t state = 0x9E3779B97F4A7C15u;
 
@@ -530,6 +533,43 @@ static void images(void)
     }
 }
 
+/* A surface of the degrees 0 up to that number, all entries 0.0; the last table stands first where it is turned. */
+static size_t make_surface(unsigned degrees, bool turned)
+{
+    size_t end = 4 + 12 * (size_t)degrees;
+    memset(image, 0, sizeof image);
+    image[0] = (uint8_t)degrees;
+    for (unsigned i = 0; i < degrees; i++) {
+        uint8_t *row = image + 4 + 12 * i;
+        unsigned k = turned ? degrees - 1 - i : i;
+        row[0] = 1, row[1] = (uint8_t)k, row[2] = 2;
+        row[4] = (uint8_t)end, row[5] = (uint8_t)(end >> 8);
+        row[8] = (uint8_t)(k + 1);
+        end += 8 * (k + 1);
+    }
+    return end;
+}
+
+static void masses(void)
+{
+    double x, y;
+    for (unsigned same = 0; same < 2; same++) {
+        about("gudrenoss_join", "%s", same ? "one frame" : "two frames");
+        CALL_ON_FRAME(gudrenoss_join(1, 2.0, 2 - same, 3.0, &a, &x, &y));
+    }
+    for (unsigned degrees = 1; degrees <= 64; degrees++) {
+        for (unsigned turned = 0; turned < 2; turned++) {
+            size_t len = make_surface(degrees, turned);
+            about("gudrenoss_mass", "degrees 0 to %u, by degree %s", degrees - 1, turned ? "falling" : "rising");
+            CALL_ON_FRAME(gudrenoss_mass(image, len, 1, 0.5, 1, 0.75, &x));
+        }
+    }
+    size_t len = make_surface(1, false);
+    image[5] = 63, image[8] = 16, image[12] = 64, len = 16 + 8 * 64;
+    about("gudrenoss_mass", "degree 63 alone");
+    CALL_ON_FRAME(gudrenoss_mass(image, len, 1, 0.5, 1, 0.75, &x));
+}
+
 static void all(void)
 {
     version();
@@ -544,6 +584,7 @@ static void all(void)
     exponents();
     derivatives();
     images();
+    masses();
 }
 
 #ifdef MARKS
