@@ -43,9 +43,9 @@ fn made<const CHECKED: bool>(p: &Entries, n: u64) -> Permutation {
 }
 
 fn put(p: &Permutation, entries: &mut Entries, len: &mut u64) -> Status {
-    for (i, place) in entries.iter_mut().enumerate() {
-        *place = if i < p.len() { p.parts()[i] as u64 } else { 0 };
-    }
+    let (first, past) = entries.split_at_mut(p.len());
+    first.iter_mut().zip(p.parts()).for_each(|(place, &part)| *place = part as u64);
+    past.fill(0);
     *len = p.len() as u64;
     ANSWER
 }
