@@ -1,5 +1,6 @@
 -- The rows of a surface's image. Assumes nothing.
 --   none-other    no row of a surface is a table of another family or alphabet
+--   contents-lie    the contents of a good image lie within it, at most 64 rows
 --   terms-over-two    over 2 symbols there are k + 1 terms of degree k
 --   degree-low    no table of a surface has a degree above 63
 --   Body l k i, found-body    where row i has degree k: its body lies in the image, and is the table of that degree
@@ -23,7 +24,7 @@ use Rattle.words.specs.Pick.{pick}
 use Rattle.words.specs.Word.{shiftedAlphabet, count}
 use Rattle.answers.specs.Says.{Says, refusesWith, gives, andThen}
 use Rattle.image_rules.specs.Image.{familyAt, degreeAt, alphabetAt, offsetAt, entriesAt, familyOfByte, imageSays}
-use Rattle.image_rules.proofs.Good.{both, RowOf, good-exactly}
+use Rattle.image_rules.proofs.Good.{both, RowOf, good-exactly, contents-within}
 use Rattle.image_reading.specs.Reading.{findRow, numberSays, tableAt}
 use Rattle.image_reading.proofs.Looking.{Names, found-of, Given, row-given}
 use Rattle.surface.specs.Surface.{numbersAt, bodyOf, tableOf, someOther, Surface}
@@ -47,6 +48,9 @@ none-other l (suc t) e i h = go (eqb (familyAt l t) 1 && eqb (alphabetAt l t) 2)
         (λ (s : i ≡ t). (ap (familyAt l) s ∙ eqb-true (familyAt l t) 1 (d .0), ap (alphabetAt l) s ∙ eqb-true (alphabetAt l t) 2 (d .1)))
         (λ (s : i < t). rec x s)
         (eq-or-lt-of-le (let w : i ≤ t = omega arith in w))
+
+pub contents-lie : (l : List ℕ) (t : ℕ) → imageSays l ≡ gives t → (t ≤ 64) × (4 + 12 * t ≤ length l)
+contents-lie l t e = let g = good-exactly l (length l) t .0 e in (g .few, contents-within l (length l) t g)
 
 -- ---- the body of a degree
 

@@ -1,0 +1,3 @@
+pub mod Scaling
+pub mod Turns
+pub mod Monomials
