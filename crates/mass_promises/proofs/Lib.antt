@@ -1,0 +1,4 @@
+pub mod Outcomes
+pub mod Masses
+pub mod Terms
+pub mod Order

@@ -1,0 +1,1 @@
+// What the mass of one frame promises (02, section 3), as theorems over its definitions: `proofs/` has them.
