@@ -1,7 +1,5 @@
 -- The rows of an image may stand in any order (02, section 3). Assumes nothing.
---   held l F k    what an image holds under a family and a degree: the alphabet and the entries of that table, or why there is none; where the row stands and where the body does is not in it
---   SameTables l m    two images hold the same under every family and degree
---   same-surface    then their surfaces are the same
+--   same-surface    two images that hold the same tables have the same surface
 --   rows-in-any-order    two good images that hold the same tables give every two readings the same mass, or the same refusal
 use mathlib.Core.Path.{_≡_, refl, sym, ap, _∙_}
 use mathlib.Core.Bool.{Bool, true, false, _&&_}
@@ -26,23 +24,11 @@ use Rattle.image_reading.specs.Reading.{numberOfFamily, findRow, numberSays, ta
 use Rattle.image_reading.proofs.Looking.{Names, found-of, family-byte}
 use Rattle.image_promises.proofs.Tables.{each-table-is-found}
 use Rattle.surface.specs.Mass.{massOf}
-use Rattle.surface.specs.Surface.{numbersAt, bodyOf, tableOf, tablesFrom, surfaceOf, someOther, allFinite}
+use Rattle.surface.specs.Surface.{bodyOf, tableOf, tablesFrom, surfaceOf, someOther, allFinite}
 use Rattle.surface.proofs.Rows.{none-other}
 use Rattle.mass.specs.declared.Sample.{Sample}
 use Rattle.mass.specs.Mass.{framed, joinSays, judgedSays, sampleSays, massSays}
-
-pub record Held : Type 0 where
-  pub alphabet : ℕ
-  pub entries : List ℕ
-
-abbrev holding : List ℕ → Table → Held
-holding l x = record { alphabet = x .alphabet; entries = numbersAt l (x .offset) (x .entries) }
-
-abbrev pub held : List ℕ → Family → ℕ → Says Held
-held l F k = andThen (rowSays l F k) (λ x. gives (holding l x))
-
-abbrev pub SameTables : List ℕ → List ℕ → Type 0
-SameTables l m = (F : Family) (k : ℕ) → held l F k ≡ held m F k
+use Rattle.mass_promises.specs.Held.{Held, holding, held, SameTables}
 
 -- ---- the tables by degree
 

@@ -2,12 +2,12 @@
 --   pressure-shared, temperature-shared    the monomial of a term is one rounded product more than that of a term of the degree below: of rank 0 by the pressure, of every other by the temperature
 --   term-of-rank    the word of rank j is k - j pressures, then j temperatures: an Allowed word over 2 whose rank is j
 --   missing-degree-adds-nothing    a degree that no table has contributes no operation
---   Term, termsOf, mass-of-terms    the mass is the sum, from +0.0, over the list of the surface's terms by degree and rank, in which a missing degree has none
+--   mass-of-terms, missing-degree-has-no-terms    the mass is the sum, from +0.0, over the list of the surface's terms by degree and rank, in which a missing degree has none
 use mathlib.Core.Path.{_≡_, refl, sym, ap, _∙_}
 use mathlib.Core.List.{List, [], _∷_, _++_, append-nil}
 use Prim.Native.Nat.{ℕ, zero, suc, _+_, _-_, _≤_}
 use native.Mathlib.Omega.{arith}
-use lib.Ieee.{Float, binary64, ofBits, add, mul}
+use lib.Ieee.{Float, binary64, mul}
 use Rattle.words.specs.declared.Family.the-variants.{Allowed}
 use Rattle.words.specs.Word.{Word}
 use Rattle.words.specs.Rank.{rankOf}
@@ -18,6 +18,7 @@ use Rattle.surface.specs.Mass.{monomial, monomialAt, addTerms, addDegrees, mass
 use Rattle.surface.specs.Surface.{bodyOf, tableOf}
 use Rattle.surface.proofs.TwoSymbols.{times, termOf, term-is-a-word, term-has-its-rank, unrank-is-term}
 use Rattle.evaluation.proofs.Monomials.{more-p, more-t}
+use Rattle.mass_promises.specs.Terms.{Term, ofTable, termsFrom, termsOf, addAll}
 
 -- ---- what terms share
 
@@ -52,26 +53,6 @@ unfolding addDegrees addTerms
 missing-degree-adds-nothing l p t k ts sum e = ap (λ (cs : List ℕ). addDegrees p t (suc k) ts (addTerms (monomialAt p t k) 0 cs sum)) (ap (bodyOf l) e)
 
 -- ---- the list of the terms
-
--- a coefficient, by its bits, and the word that it goes with
-pub record Term : Type 0 where
-  pub coefficient : ℕ
-  pub word : List ℕ
-
-abbrev pub ofTable : ℕ → ℕ → List ℕ → List Term
-ofTable k j [] = []
-ofTable k j (c ∷ cs) = record { coefficient = c; word = unrankOf Allowed k j } ∷ ofTable k (suc j) cs
-
-abbrev pub termsFrom : ℕ → List (List ℕ) → List Term
-termsFrom k [] = []
-termsFrom k (cs ∷ ts) = ofTable k 0 cs ++ termsFrom (suc k) ts
-
-abbrev pub termsOf : List (List ℕ) → List Term
-termsOf ts = termsFrom 0 ts
-
-abbrev pub addAll : Float → Float → List Term → Float → Float
-addAll p t [] sum = sum
-addAll p t (x ∷ xs) sum = addAll p t xs (add binary64 sum (mul binary64 (ofBits binary64 (x .coefficient)) (monomial p t (x .word))))
 
 table-terms : (p t : Float) (k j : ℕ) (cs : List ℕ) (rest : List Term) (sum : Float) → addAll p t (ofTable k j cs ++ rest) sum ≡ addAll p t rest (addTerms (monomialAt p t k) j cs sum)
 unfolding addTerms
