@@ -1,0 +1,3 @@
+pub mod Terms
+pub mod Counting
+pub mod Unranking
