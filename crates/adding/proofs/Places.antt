@@ -12,7 +12,7 @@ use native.Mathlib.Nat.{zero-add, add-zero}
 use native.Mathlib.Numerals.{add-one}
 use native.Mathlib.Omega.{arith}
 use borrow.Author.Tests.{lt-ltb}
-use lib.Dec.{ltb, eqb}
+use lib.Dec.{eqb}
 use lib.ListN.{length, getD}
 use lib.Pow.{pow-mono}
 use Rattle.pascal.specs.Choose.{choose}
@@ -31,7 +31,8 @@ use Rattle.words.proofs.Bits.{bits-fit, reset-bits, tail, bits-of-set, set-of-b
 use Rattle.words.proofs.Shifted.{shifted-monotone, unshifted-shifted, word-shifted, shifted-first, shifted-next}
 use Rattle.words.proofs.Next.{reset-long, next-long, next-is-a-word}
 use Rattle.bits.specs.Mask.{clamped, LowMask}
-use Rattle.successor.specs.Later.{following, later}
+use Rattle.seam.specs.Later.{following}
+use Rattle.successor.specs.Later.{later}
 use Rattle.merging.specs.Sorting.{insert}
 use Rattle.derivatives.proofs.Inserted.{insert-word, insert-many, occurs-at-most}
 use Rattle.derivatives.proofs.Walking.{Raised, raised, next-below, next-above, occurs-below, occurs-above, first-inserted, first-occurs}

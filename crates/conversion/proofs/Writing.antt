@@ -17,7 +17,7 @@ use native.Mathlib.Nat.{eq-or-lt-of-le}
 use native.Mathlib.Omega.{arith}
 use borrow.Author.Tests.{lt-ltb, eqb-true}
 use lib.Dec.{eqb}
-use lib.ListN.{length, take}
+use lib.ListN.{length}
 use lib.Seq.{take-all}
 use Rattle.pascal.specs.Choose.{choose}
 use Rattle.words.specs.declared.Family.{Family}
@@ -27,7 +27,7 @@ use Rattle.words.specs.Word.{Word, shiftedAlphabet, count}
 use Rattle.words.specs.Rank.{rankOf}
 use Rattle.words.specs.Unrank.{unrankOf}
 use Rattle.words.specs.Next.{first, next}
-use Rattle.words.specs.Bits.{bitsOf, setBits}
+use Rattle.words.specs.Bits.{setBits}
 use lib.Pow.{pow-mono}
 use Rattle.pascal.proofs.Choose.{choose-none}
 use Rattle.words.proofs.Unrank.{unrank-is-a-word, rank-of-unrank, unrank-of-rank}
@@ -36,7 +36,8 @@ use Rattle.words.proofs.Ends.{first-is-unrank-zero}
 use Rattle.words.proofs.Bits.{bits-fit, set-of-bits}
 use Rattle.bits.specs.Mask.{LowMask}
 use Rattle.bits.proofs.Mask.{clamped-within}
-use Rattle.successor.specs.Later.{following, later}
+use Rattle.seam.specs.Later.{following}
+use Rattle.successor.specs.Later.{later}
 use Rattle.lexicographic.specs.Order.{mirror, lexRank}
 use Rattle.lexicographic.specs.Later.{laterWords, laterSets}
 use Rattle.lexicographic.specs.Entries.{entryAt, rearranged}

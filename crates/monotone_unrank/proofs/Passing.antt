@@ -1,12 +1,11 @@
 -- Unranking goes on with another call's answer, in the definitions: the refusals that it passes on are its own. Assumes nothing.
 --   unrank-accepted    what unranking gives is accepted
 --   unrank-by-index    unranking to a word is unranking to an index, and unpacking it
---   widest-none, widest-some    the widest alphabet, with a program's k - 1
 --   unrank-bits    the bits of the word of a rank, and that the rank is one of the shifted alphabet
 use mathlib.Core.Path.{_≡_, refl, sym, ap, _∙_}
 use mathlib.Core.Bool.{Bool, true, false}
 use mathlib.Core.List.{List}
-use Prim.Native.Nat.{ℕ, zero, suc, _-_, _≤_, _<_}
+use Prim.Native.Nat.{ℕ, _≤_, _<_}
 use native.Mathlib.Omega.{arith}
 use borrow.Author.Tests.{leb-false}
 use lib.Dec.{leb, ltb}
@@ -14,8 +13,8 @@ use lib.ListN.{length}
 use Rattle.pascal.specs.Row.{entry}
 use Rattle.pascal.proofs.Row.{entry-is-choose}
 use Rattle.words.specs.declared.Family.{Family}
-use Rattle.words.specs.declared.Family.the-variants.{Forbidden, Allowed}
-use Rattle.words.specs.Word.{shift, shifted, shiftedAlphabet, count}
+use Rattle.words.specs.declared.Family.the-variants.{Forbidden}
+use Rattle.words.specs.Word.{shifted, shiftedAlphabet, count}
 use Rattle.words.specs.Unrank.{unrankOf}
 use Rattle.words.specs.Bits.{bitsOf}
 use Rattle.words.proofs.Word.{alphabet-least}
@@ -28,7 +27,7 @@ use Rattle.taking.specs.Taken.{Accepted}
 use Rattle.taking.proofs.Accepted.{index-accepted, taken-accepted}
 use Rattle.monotone_count.specs.Rules.{countSays}
 use Rattle.monotone.specs.Rules.{unpackSays}
-use Rattle.monotone_unrank.specs.Rules.{unrankOverSays, unrankSays, widest}
+use Rattle.monotone_unrank.specs.Rules.{unrankOverSays, unrankSays}
 use Rattle.monotone_count.proofs.Rules.{Counted, count-given}
 
 -- what unranking gives is accepted
@@ -58,17 +57,6 @@ unrank-by-index F n k r room = on (countSays F n k) refl
         ≡ andThen (andThen s (λ c. refusedIf (leb c r) 3 (gives (indexOf F n (unrankOf F k r))))) (λ x. unpackSays x room)
     on (refusesWith e p) q = refl
     on (gives c) q = by c q (leb c r) refl
-
--- the widest alphabet, with a program's k - 1
-pub widest-none : (F : Family) (k : ℕ) → k ≡ 0 → 64 ≡ widest F k
-widest-none Forbidden k e = refl
-widest-none Allowed zero e = refl
-widest-none Allowed (suc k) e = absurd (omega arith)
-
-pub widest-some : (F : Family) (k : ℕ) → 0 < k → 64 - shift F (k - 1) ≡ widest F k
-widest-some Forbidden k h = omega arith
-widest-some Allowed zero h = absurd (omega arith)
-widest-some Allowed (suc k) h = omega arith
 
 -- c is the count, and r is below it
 pub record Within (F : Family) (n k r : ℕ) : Type 0 where

@@ -34,7 +34,8 @@ use Rattle.taking.specs.declared.Verdict.{Verdict}
 use Rattle.taking.specs.declared.Verdict.the-variants as verdict
 use Rattle.taking.specs.Taken.{shiftedAlphabetOf, Accepted, verdictOf}
 use Rattle.taking.proofs.Accepted.{below-is-shifted, outside-is-reaches, taken-accepted, took, verdict-accepted}
-use Rattle.successor.specs.Later.{following as followingOf, later}
+use Rattle.seam.specs.Later.{following as followingOf}
+use Rattle.successor.specs.Later.{later}
 use Rattle.monotone_walk.specs.Rules.{nextSays, successorSays}
 use Rattle.monotone_walk.specs.declared.Current.the-variants.{At}
 use Rattle.monotone_walk.specs.Walks.{current, stepFrom}

@@ -17,7 +17,6 @@ use mathlib.Core.Logic.{_↔_, _⊎_, inl, inr}
 use mathlib.Core.List.{List, [], _∷_}
 use Prim.Native.Nat.{ℕ, zero, suc, _+_, _-_, _*_, _^_, _≤_, _<_, zero-le}
 use native.Mathlib.Nat.{suc-add, add-suc, add-zero, zero-add}
-use native.Mathlib.Decide.{decLe}
 use native.Mathlib.Omega.{arith}
 use borrow.Author.Tests.{eqb-true, eqb-false}
 use lib.Dec.{eqb}
@@ -39,7 +38,6 @@ use Rattle.words.proofs.Ends.{last-is-a-word, last-has-nothing-after, last-bits
 use Rattle.words.proofs.Colex.{to-colex, from-colex}
 use Rattle.words.proofs.Rank.{rank-rises, rank-below-count, word-short, before-of-rank}
 use Rattle.words.proofs.Unrank.{unrank-long, unrank-monotone, unrank-is-a-word, rank-of-unrank, unrank-of-rank, word-by-rank}
-use Rattle.words.proofs.Positions.{shifted-below}
 use Rattle.words.proofs.Counted.{count-is-how-many-words, rank-is-how-many-earlier}
 use Rattle.words.proofs.Next.{next-long, next-monotone, next-rank, next-is-later, nothing-between-word-and-next}
 use Rattle.answers.specs.declared.Index.{Index}
@@ -47,8 +45,6 @@ use Rattle.answers.specs.Says.{refuses, gives, refusedIf}
 use Rattle.answers.specs.Terms.{indexOf, wordOf}
 use Rattle.answers.proofs.Says.{gives-same, gives-no-refusal, passed, stopped}
 use Rattle.answers.proofs.Terms.{word-of-index, word-monotone, shifted-word}
-use Rattle.packing.specs.Checks.{lastShifted}
-use Rattle.packing.proofs.Checks.{last-shifted-at, last-shifted-none}
 use Rattle.monotone_walk.specs.declared.Walk.{Walk}
 use Rattle.monotone_count.specs.Rules.{countSays, walkSays}
 use Rattle.monotone_rank.specs.Rules.{rankSays}
@@ -58,6 +54,7 @@ use Rattle.taking.specs.Taken.{shiftedAlphabetOf, Accepted}
 use Rattle.taking.proofs.Accepted.{accepted-is-a-word, taken-accepted, taken-gives}
 use Rattle.monotone_count.proofs.Rules.{Counted, count-given}
 use Rattle.monotone_unrank.proofs.Rules.{Unranked, unrank-given, unrank-gives}
+use Rattle.widths.proofs.Checking.{word-ranked-in}
 use Rattle.monotone.proofs.Rules.{Ranked, checked-given, checked-gives}
 use Rattle.promises.specs.Listing.{listing, Lists, sumBelow}
 use Rattle.promises.proofs.Walks.{positive-of-not-zero, Standing, walk-stands, walk-lists-by-rank}
@@ -106,11 +103,7 @@ rank-is-a-sum-of-binomials F w =
 -- ---- unranking
 
 pub word-ranked : (F : Family) (n k : ℕ) (w : List ℕ) → Word F n k w → k ≤ 64 → shiftedAlphabet F n k ≤ 64 → Ranked F w
-word-ranked F n k w h d l = record { short = omega (arith, h .long); monotone = h .monotone; low = go (decLe 1 (length w)) }
-  where
-    go : Dec (1 ≤ length w) → lastShifted F w ≤ 63
-    go (yes p) = omega (arith, last-shifted-at F w p, shifted-below F n k w h (length w - 1) (omega arith))
-    go (no p) = omega (arith, last-shifted-none F w (omega arith))
+word-ranked F n k w h d l = word-ranked-in 63 F n k w h d l
 
 pub unrank-gives-a-word-of-that-rank : (F : Family) (n k r room : ℕ) (w : List ℕ) → unrankSays F n k r room ≡ gives w → Word F n k w × (rankSays F w ≡ gives r)
 unrank-gives-a-word-of-that-rank F n k r room w e = go (unrank-given F n k r room w e .0)
