@@ -1,5 +1,5 @@
 -- The loop of the converter. Assumes nothing.
---   turned-below    the place counted from the other end is below the count
+--   place-in-below    a place is below the count
 --   Written back a k c from out q    the entries of the first q sets are in their places
 --   written-none, written-more, written-all    before the first, after one more, and at the end
 --   Walks a k c q bits later    the walk stands at the set of rank q, unless it is past the last
@@ -38,93 +38,104 @@ use Rattle.bits.specs.Mask.{LowMask}
 use Rattle.bits.proofs.Mask.{clamped-within}
 use Rattle.seam.specs.Later.{following}
 use Rattle.successor.specs.Later.{later}
-use Rattle.lexicographic.specs.Order.{mirror, lexRank}
 use Rattle.lexicographic.specs.Later.{laterWords, laterSets}
 use Rattle.lexicographic.specs.Entries.{entryAt, rearranged}
+use Rattle.lexicographic.specs.Bodies.{lexOf, colexOf}
 use Rattle.lexicographic.proofs.Following.{later-of-set, later-below, first-later}
 use Rattle.lexicographic.proofs.Rank.{lex-rank-sum}
-use Rattle.lexicographic.proofs.Bodies.{new-body-long, old-body-long}
+use Rattle.lexicographic.proofs.Bodies.{colex-of-below, lex-of-colex, colex-of-lex, new-body-long, old-body-long}
 use Rattle.lexicographic.proofs.Entries.{entry-long, rearranged-same}
 use Rattle.following.specs.Stands.{Stands}
 use Rattle.answers.specs.Says.{refusesWith, refuses, gives, refusedIf, andThen}
 use Rattle.monotone_count.specs.Rules.{countSays}
 use Rattle.monotone_count.proofs.Rules.{Counted, count-given}
-use Rattle.conversion.specs.Rules.{placeOf, converted, convertSays, turned, Exact}
+use Rattle.conversion.specs.Rules.{placeOf, converted, convertSays, placeIn, Exact}
 use Rattle.conversion.proofs.Copying.{put, put-long, put-here, put-elsewhere}
 
 -- ---- places
 
-pub turned-below : (round : Bool) (c q : ℕ) → q < c → turned round c q < c
-turned-below true c q h = omega arith
-turned-below false c q h = h
+pub place-in-below : (colex : Bool) (c q m : ℕ) → q < c → m < c → placeIn colex c q m < c
+place-in-below true c q m h l = h
+place-in-below false c q m h l = omega arith
 
-turned-back : (round : Bool) (c q : ℕ) → q < c → turned round c (turned round c q) ≡ q
-turned-back true c q h = omega arith
-turned-back false c q h = refl
-
-place-of-turned : (back : Bool) (F : Family) (n k q later : ℕ) → q < count F n k → later ≡ laterSets (shiftedAlphabet F n k) k q
-    → turned (not back) (count F n k) later ≡ placeOf back F n k (turned back (count F n k) q)
-place-of-turned false F n k q m h e =
-    let l : lexRank F n (unrankOf F k q) ≡ count F n k - 1 - m =
-    omega (arith, e, later-of-set F n k q h, lex-rank-sum F n k (unrankOf F k q) (unrank-is-a-word F n k q h)) in
+-- the place in lexicographic order of the set of rank q
+lex-place : (F : Family) (n k q : ℕ) → q < count F n k → count F n k - 1 - laterSets (shiftedAlphabet F n k) k q ≡ lexOf F n k q
+lex-place F n k q h =
+    let l : lexOf F n k q ≡ count F n k - 1 - laterSets (shiftedAlphabet F n k) k q =
+    omega (arith, later-of-set F n k q h, lex-rank-sum F n k (unrankOf F k q) (unrank-is-a-word F n k q h)) in
     sym l
-place-of-turned true F n k q m h e =
-    e ∙ sym (later-of-set F n k q h) ∙ ap (λ (j : ℕ). rankOf F (mirror n (unrankOf F k j))) (omega arith)
+
+-- two sets have two places, in either order
+places-apart : (a k c i j : ℕ) → c ≡ choose a k → i < j → j < c → (colex : Bool) → placeIn colex c i (laterSets a k i) ≡ placeIn colex c j (laterSets a k j) → ⊥
+places-apart a k c i j e h l true s = omega arith
+places-apart a k c i j e h l false s =
+    let u : i < choose a k = omega (arith, e) in
+    let v : j < choose a k = omega (arith, e) in
+    let same : lexOf Forbidden a k i ≡ lexOf Forbidden a k j =
+    sym (lex-place Forbidden a k i u)
+    ∙ ap (λ (d : ℕ). d - 1 - laterSets a k i) (sym e)
+    ∙ s
+    ∙ ap (λ (d : ℕ). d - 1 - laterSets a k j) e
+    ∙ lex-place Forbidden a k j v in
+    let one : i ≡ j = sym (colex-of-lex Forbidden a k i u) ∙ ap (colexOf Forbidden a k) same ∙ colex-of-lex Forbidden a k j v in
+    omega (arith, one)
 
 -- ---- the entries that are written
 
 -- a is the shifted alphabet: neither the family nor n is needed to say what is written
 pub record Written (back : Bool) (a k c : ℕ) (from out : List ℕ) (q : ℕ) : Type 0 where
   pub long : length out ≡ 8 * c
-  pub done : (j : ℕ) → j < q → entryAt out (turned back c j) ≡ entryAt from (turned (not back) c (laterSets a k j))
+  pub done : (j : ℕ) → j < q → entryAt out (placeIn (not back) c j (laterSets a k j)) ≡ entryAt from (placeIn back c j (laterSets a k j))
 
 pub written-none : (back : Bool) (a k c : ℕ) (from out : List ℕ) → length out ≡ 8 * c → Written back a k c from out 0
 written-none back a k c from out e = record { long = e; done = λ j h. absurd (omega arith) }
 
-turned-apart : (round : Bool) (c i j : ℕ) → i < j → j < c → turned round c i ≡ turned round c j → ⊥
-turned-apart true c i j h l e = omega arith
-turned-apart false c i j h l e = omega arith
-
-pub written-more : (back : Bool) (a k c : ℕ) (from out new : List ℕ) (q i t : ℕ) → length from ≡ 8 * c → q < c → i < c
-    → i ≡ turned (not back) c (laterSets a k q) → t ≡ turned back c q → new ≡ put t (entryAt from i) out
+pub written-more : (back : Bool) (a k c : ℕ) (from out new : List ℕ) (q i t : ℕ) → length from ≡ 8 * c → c ≡ choose a k → q < c
+    → i ≡ placeIn back c q (laterSets a k q) → t ≡ placeIn (not back) c q (laterSets a k q) → new ≡ put t (entryAt from i) out
     → Written back a k c from out q → Written back a k c from new (q + 1)
-written-more back a k c from out new q i t f h g e u p w =
-    record { long = ap length p ∙ put-long t (entryAt from i) out l b ∙ w .long; done = λ j m. ap (λ (o : List ℕ). entryAt o (turned back c j)) p ∙ at j (eq-or-lt-of-le (omega arith)) }
+written-more back a k c from out new q i t f z h e u p w =
+    record {
+      long = ap length p ∙ put-long t (entryAt from i) out l b ∙ w .long;
+      done = λ j m. ap (λ (o : List ℕ). entryAt o (placeIn (not back) c j (laterSets a k j))) p ∙ at j (eq-or-lt-of-le (omega arith));
+    }
   where
+    few : laterSets a k q < c
+    few = omega (arith, z, later-below a k (unrankOf Forbidden k q) (unrank-is-a-word Forbidden a k q (omega (arith, z))))
+
     b : 8 * t + 8 ≤ length out
-    b = omega (arith, w .long, u, turned-below back c q h)
+    b = omega (arith, w .long, u, place-in-below (not back) c q (laterSets a k q) h few)
 
     l : length (entryAt from i) ≡ 8
-    l = entry-long from i (omega (arith, f, g))
+    l = entry-long from i (omega (arith, f, e, place-in-below back c q (laterSets a k q) h few))
 
-    at : (j : ℕ) → (j ≡ q) ⊎ (j < q) → entryAt (put t (entryAt from i) out) (turned back c j) ≡ entryAt from (turned (not back) c (laterSets a k j))
+    at : (j : ℕ) → (j ≡ q) ⊎ (j < q) → entryAt (put t (entryAt from i) out) (placeIn (not back) c j (laterSets a k j)) ≡ entryAt from (placeIn back c j (laterSets a k j))
     at j (inl s) =
-        ap (entryAt (put t (entryAt from i) out)) (ap (turned back c) s ∙ sym u)
+        ap (entryAt (put t (entryAt from i) out)) (ap (λ (m : ℕ). placeIn (not back) c m (laterSets a k m)) s ∙ sym u)
         ∙ put-here t (entryAt from i) out l b
-        ∙ ap (entryAt from) (e ∙ ap (λ (m : ℕ). turned (not back) c (laterSets a k m)) (sym s))
-    at j (inr s) = put-elsewhere t (entryAt from i) out l b (turned back c j) (λ y. turned-apart back c j q s h (y ∙ u)) ∙ w .done j s
+        ∙ ap (entryAt from) (e ∙ ap (λ (m : ℕ). placeIn back c m (laterSets a k m)) (sym s))
+    at j (inr s) =
+        put-elsewhere t (entryAt from i) out l b (placeIn (not back) c j (laterSets a k j)) (λ y. places-apart a k c j q z s h (not back) (y ∙ u))
+        ∙ w .done j s
 
 pub written-all : (back : Bool) (F : Family) (n k c a : ℕ) (from out : List ℕ) (q : ℕ) → a ≡ shiftedAlphabet F n k → c ≡ count F n k → q ≡ c
     → Written back a k c from out q → out ≡ converted back F n k from
 written-all back F n k c a from out q y z x w =
     sym
     (ap (λ (d : ℕ). rearranged (placeOf back F n k) d from) (sym z)
-    ∙ rearranged-same (placeOf back F n k) c out from (λ r h. sym (at r h))
+    ∙ rearranged-same (placeOf back F n k) c out from (λ r h. sym (at back w r h))
     ∙ take-all (8 * c) out (omega (arith, w .long)))
   where
-    -- the place that the entry at the place of the set of rank j comes from
-    from-there : (j : ℕ) → j < c → turned (not back) c (laterSets a k j) ≡ placeOf back F n k (turned back c j)
-    from-there j h =
-        ap₂ (λ (d b : ℕ). turned (not back) d (laterSets b k j)) z y
-        ∙ place-of-turned back F n k j (laterSets (shiftedAlphabet F n k) k j) (omega (arith, z)) refl
-        ∙ ap (λ (d : ℕ). placeOf back F n k (turned back d j)) (sym z)
+    -- the lexicographic place of the set of rank j
+    lex : (j : ℕ) → j < c → c - 1 - laterSets a k j ≡ lexOf F n k j
+    lex j h = ap₂ (λ (d b : ℕ). d - 1 - laterSets b k j) z y ∙ lex-place F n k j (omega (arith, z))
 
-    there : (j : ℕ) → j < c → entryAt out (turned back c j) ≡ entryAt from (placeOf back F n k (turned back c j))
-    there j h = w .done j (omega (arith, x)) ∙ ap (entryAt from) (from-there j h)
-
-    at : (r : ℕ) → r < c → entryAt out r ≡ entryAt from (placeOf back F n k r)
-    at r h =
-        subst (λ (m : ℕ). entryAt out m ≡ entryAt from (placeOf back F n k m)) (turned-back back c r h) (there (turned back c r) (turned-below back c r h))
+    -- to the new order the set of rank r is written at r, and on the way back it is the one whose lexicographic place is r
+    at : (way : Bool) → Written way a k c from out q → (r : ℕ) → r < c → entryAt out r ≡ entryAt from (placeOf way F n k r)
+    at false v r h = v .done r (omega (arith, x)) ∙ ap (entryAt from) (lex r h)
+    at true v r h =
+        let below : r < count F n k = omega (arith, z) in
+        let g : colexOf F n k r < c = omega (arith, colex-of-below F n k r below, z) in
+        ap (entryAt out) (sym (lex (colexOf F n k r) g ∙ lex-of-colex F n k r below)) ∙ v .done (colexOf F n k r) (omega (arith, g, x))
 
 -- ---- the walk
 
@@ -139,13 +150,14 @@ walks-first a k c b m e h l f g =
       many = λ p. omega (arith, first-later a k (omega (arith, e)), e, g);
     }
 
-pub walks-stands : (a k c q bits m : ℕ) → c ≡ choose a k → a ≤ 64 → suc q < c → Walks a k c q bits m → Stands a k bits m
+pub walks-stands : (a k c q bits m : ℕ) → c ≡ choose a k → a ≤ 64 → suc q < c → Walks a k c q bits m → Stands a k c bits m
 walks-stands a k c q bits m e h l w =
     let s : setBits bits ≡ unrankOf Forbidden k q = w .set (omega arith) in
     record {
       narrow = h;
       word = subst (Word Forbidden a k) (sym s) (unrank-is-a-word Forbidden a k q (omega (arith, e)));
       more = omega (arith, ap (rankOf Forbidden) s, rank-of-unrank Forbidden a k q (omega (arith, e)), e);
+      all = e;
       count = w .many (omega arith) ∙ ap (laterWords Forbidden a) (sym s);
     }
 

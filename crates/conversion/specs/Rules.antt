@@ -2,7 +2,7 @@
 --   placeOf back F n k r    the place that the entry at place r comes from: `lexOf` to the new order, `colexOf` back to the old
 --   converted back F n k l    the entries of l in the other order: `newBody`, or `oldBody`
 --   convertSays back F n k l room    the count's refusal; 8 unless both buffers have exactly the count of 8-byte entries; the converted body
---   turned round c q    the place q of c, counted from the other end if so asked
+--   placeIn colex c q later    the place of a set of c that has the colex rank q and later sets that stand lexicographically later: in colex order, or in lexicographic order
 --   Exact F n k c l m    what the writing of it needs: both buffers have the count of entries
 use mathlib.Core.Path.{_≡_}
 use mathlib.Core.Bool.{Bool, true, false, not}
@@ -29,8 +29,8 @@ abbrev pub convertSays : Bool → Family → ℕ → ℕ → List ℕ → ℕ �
 convertSays back F n k l room =
     andThen (countSays F n k) (λ c. refusedIf (not (eqb (length l) (8 * c))) 8 (refusedIf (not (eqb room (8 * c))) 8 (gives (converted back F n k l))))
 
-abbrev pub turned : Bool → ℕ → ℕ → ℕ
-turned round c q = pick round (c - 1 - q) q
+abbrev pub placeIn : Bool → ℕ → ℕ → ℕ → ℕ
+placeIn colex c q later = pick colex q (c - 1 - later)
 
 pub record Exact (F : Family) (n k c : ℕ) (l m : List ℕ) : Type 0 where
   pub degree : k ≤ 64

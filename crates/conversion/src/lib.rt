@@ -8,7 +8,7 @@ ghost use lib.Dec.{eqb};
 ghost use lib.ListN.{length, take, drop};
 ghost use Rattle.answers.specs.Says.{answerSays, placesOf, after};
 ghost use Rattle.lexicographic.specs.Entries.{entryAt};
-ghost use Rattle.conversion.specs.Rules.{turned as turnedOf, converted, convertSays, Exact};
+ghost use Rattle.conversion.specs.Rules.{placeIn, converted, convertSays, Exact};
 use answers::Answer;
 use answers::Refusal;
 use words::Family;
@@ -24,15 +24,15 @@ fn has_entries(bytes: usize, c: u64) -> bool
     whole / 8 == c
 }
 
-// The place q of c, counted from the other end if so asked.
-fn turned(round: bool, c: u64, q: u64) -> u64
-    requires { ⌜ q < c ⌝ }
-    ensures { λ r. ⌜ r ≡ turnedOf round c q ⌝ }
+// The place of a set in one of the two orders of c: q in colex order, and in lexicographic order what is left once those that stand later are counted off.
+fn place_in(colex: bool, c: u64, q: u64, later: u64) -> u64
+    requires { ⌜ later < c ⌝ }
+    ensures { λ r. ⌜ r ≡ placeIn colex c q later ⌝ }
 {
-    if round {
-        return c - 1 - q;
+    if colex {
+        return q;
     }
-    q
+    c - 1 - later
 }
 
 // Copies entry i of one buffer to entry j of the other.
@@ -49,8 +49,8 @@ fn copy_entry(from: &[u8], i: u64, out: &mut [u8], j: u64)
     }
 }
 
-// Writes the entries in the other order. The sets are walked in colex order, with how many stand later in lexicographic order: counted from the other end that is
-// the lexicographic place of the set, and as it is the colex place of the mirrored one.
+// Writes the entries in the other order. The sets are walked in colex order, with how many stand later in lexicographic order, so that both places of each are known:
+// on the way back the entries are read one after the other, and written here and there.
 fn write(back: bool, family: Family, n: u64, k: u64, c: u64, from: &[u8], out: &mut [u8])
     requires { ⌜ Exact family n k c (now from) (now out) ⌝ }
     ensures { λ r. ⌜ now (out .exit) ≡ converted back family n k (now (from .entry)) ⌝ }
@@ -60,10 +60,15 @@ fn write(back: bool, family: Family, n: u64, k: u64, c: u64, from: &[u8], out: &
     let mut later = std::num::wrapping_sub_u64(c, 1);
     let mut q: u64 = 0;
     while q < c {
-        copy_entry(from, turned(!back, c, later), out, turned(back, c, q));
+        copy_entry(
+            from,
+            place_in(back, c, q, later),
+            out,
+            place_in(!back, c, q, later),
+        );
         q += 1;
         if q < c {
-            later = following::next_later(a, k, bits, later);
+            later = following::next_later(a, k, c, bits, later);
             bits = successor::successor(bits);
         }
     }

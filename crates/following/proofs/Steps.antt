@@ -1,6 +1,6 @@
 -- What a step of the walk needs, and gives. Assumes nothing.
---   small    a binomial up to row 64 is below 2^61, so that four of them fit 64 digits together
---   Steps a k bits later x t    with x the lowest number of the set and t those that follow it without a gap
+--   small, all-small    a binomial up to row 64 is below 2^61, and so is the number of sets, so that four of them fit 64 digits together
+--   Steps a k m bits later x t    with m how many sets there are, x the lowest number of the set and t those that follow it without a gap
 --   some, steps    so it is of a set that is not the last, which is not empty
 use mathlib.Core.Path.{_≡_, refl, sym, ap, subst, _∙_}
 use mathlib.Core.List.{List, [], _∷_}
@@ -29,26 +29,30 @@ choose-small = choose-fits 61 64 tt
 pub small : (n k : ℕ) → n ≤ 64 → entry n k < 2 ^ 61
 small n k h = omega (arith, entry-is-choose n k, choose-small n k h)
 
-pub record Steps (a k bits later x t : ℕ) : Type 0 where
+-- so is their number
+pub all-small : (a k m bits later : ℕ) → Stands a k m bits later → m < 2 ^ 61
+all-small a k m bits later s = omega (arith, s .all, choose-small a k (s .narrow))
+
+pub record Steps (a k m bits later x t : ℕ) : Type 0 where
   pub low : suc (x + t) < a
   pub short : suc t ≤ k
   pub fits : later < 2 ^ 61
   pub single : t ≡ 0 → laterWords Forbidden a (next Forbidden (setBits bits)) + entry (a - 2 - x) (k - 1) ≡ later
   pub several : laterWords Forbidden a (next Forbidden (setBits bits)) + entry (a - x) k + entry (a - t) (k - t)
-      ≡ later + entry (a - 1 - (x + t)) (k - 1 - t) + entry a k + entry (a - 2 - (x + t)) (k - t)
+      ≡ later + entry (a - 1 - (x + t)) (k - 1 - t) + m + entry (a - 2 - (x + t)) (k - t)
 
-pub some : (a k bits later : ℕ) → Stands a k bits later → 0 < bits
+pub some : (a k m bits later : ℕ) → Stands a k m bits later → 0 < bits
 unfolding bitsOf
-some a k bits later s = go (setBits bits) refl
+some a k m bits later s = go (setBits bits) refl
   where
     go : (w : List ℕ) → setBits bits ≡ w → 0 < bits
     go [] q = absurd (omega (arith, s .more, ap (choose a) (sym (s .word .long) ∙ ap length q), choose-none a))
     go (y ∷ ys) q = omega (arith, bits-of-set bits, ap bitsOf q, pow-pos y)
 
-pub steps : (a k bits later x t : ℕ) → Stands a k bits later → x ≡ getD (setBits bits) 0 64 → t ≡ run (setBits bits) → Steps a k bits later x t
-steps a k bits later x t s e f = go (setBits bits) refl
+pub steps : (a k m bits later x t : ℕ) → Stands a k m bits later → x ≡ getD (setBits bits) 0 64 → t ≡ run (setBits bits) → Steps a k m bits later x t
+steps a k m bits later x t s e f = go (setBits bits) refl
   where
-    go : (w : List ℕ) → setBits bits ≡ w → Steps a k bits later x t
+    go : (w : List ℕ) → setBits bits ≡ w → Steps a k m bits later x t
     go [] q = absurd (omega (arith, s .more, ap (choose a) (sym (s .word .long) ∙ ap length q), choose-none a))
     go (y ∷ ys) q =
         let w : Word Forbidden a k (y ∷ ys) = subst (Word Forbidden a k) q (s .word) in
@@ -69,7 +73,7 @@ steps a k bits later x t s e f = go (setBits bits) refl
                 n,
                 c,
                 entry-is-choose (a - 2 - x) (k - 1),
-                ap (λ (m : ℕ). choose (a - 2 - m) (k - 1)) z,
+                ap (λ (i : ℕ). choose (a - 2 - i) (k - 1)) z,
               );
           several = omega (
             arith,
@@ -77,10 +81,10 @@ steps a k bits later x t s e f = go (setBits bits) refl
             n,
             c,
             entry-is-choose (a - x) k,
-            ap (λ (m : ℕ). choose (a - m) k) z,
+            ap (λ (i : ℕ). choose (a - i) k) z,
             entry-is-choose (a - t) (k - t),
             entry-is-choose (a - 1 - (x + t)) (k - 1 - t),
-            entry-is-choose a k,
+            s .all,
             entry-is-choose (a - 2 - (x + t)) (k - t),
           );
         }

@@ -28,9 +28,9 @@ fn run(bits: u64) -> u64
 }
 
 // How many sets stand later in lexicographic order than the one that is next in colex order; later is how many stand later than the set itself, which is not the
-// last. The numbers of the lowest run but one fall to the bottom, and the last of them is raised.
-pub fn next_later(a: u64, k: u64, bits: u64, later: u64) -> u64
-    requires { ⌜ Stands a k bits later ⌝ }
+// last, and c how many there are. The numbers of the lowest run but one fall to the bottom, and the last of them is raised.
+pub fn next_later(a: u64, k: u64, c: u64, bits: u64, later: u64) -> u64
+    requires { ⌜ Stands a k c bits later ⌝ }
     ensures { λ r. ⌜ r ≡ laterWords Forbidden a (next Forbidden (setBits bits)) ⌝ }
 {
     let x = bits::lowest(bits);
@@ -39,6 +39,6 @@ pub fn next_later(a: u64, k: u64, bits: u64, later: u64) -> u64
         return later - count::at(a - 2 - x, k - 1);
     }
     let top = x + t;
-    let more = count::at(a - 1 - top, k - 1 - t) + count::at(a, k) + count::at(a - 2 - top, k - t);
+    let more = c + count::at(a - 1 - top, k - 1 - t) + count::at(a - 2 - top, k - t);
     later + more - count::at(a - x, k) - count::at(a - t, k - t)
 }

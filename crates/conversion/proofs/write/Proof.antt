@@ -8,9 +8,9 @@ use lib.ListN.{length}
 use Rattle.pascal.specs.Choose.{choose}
 use Rattle.words.proofs.Word.{alphabet-least}
 use Rattle.lexicographic.specs.Entries.{entryAt}
-use Rattle.conversion.specs.Rules.{turned}
+use Rattle.conversion.specs.Rules.{placeIn}
 use Rattle.conversion.proofs.Copying.{put}
-use Rattle.conversion.proofs.Writing.{turned-below, Written, written-none, written-more, written-all, Walks, walks-first, walks-stands, walks-on, walks-past, Converting, later-within}
+use Rattle.conversion.proofs.Writing.{place-in-below, Written, written-none, written-more, written-all, Walks, walks-first, walks-stands, walks-on, walks-past, Converting, later-within}
 use borrow.Author.Needs.{needs}
 use Rattle.conversion.proofs.write.Statement.{statement}
 use Rattle.conversion.proofs.write.Tie as tie
@@ -38,17 +38,17 @@ loop-holds c =
       walks = walks-first (c .before .before .shifted-alphabet .result) (c .before .before .before .before .before .args .k) (c .before .before .before .before .before .args .c) (c .before .low-mask .result) (c .wrapping-sub-u64 .result) (c .before .before .before .before .before .pre .size ∙ ap (λ (x : ℕ). choose x (c .before .before .before .before .before .args .k)) (sym (c .before .before .shifted-alphabet .ensures))) (c .before .before .before .before .before .pre .degree) (c .before .low-mask .ensures) (search needs) (c .wrapping-sub-u64 .ensures);
     }
 
-turned-requires : tie.Need-turned-requires Inv-loop μ-loop
-turned-requires c κs = later-within (c .before .before .before .before .shifted-alphabet .result) (c .before .before .before .before .before .before .before .args .k) (c .before .before .before .before .before .before .before .args .c) (c .before .loop .q) (c .before .loop .bits) (c .before .loop .later) (c .before .before .before .before .before .before .before .pre .size ∙ ap (λ (x : ℕ). choose x (c .before .before .before .before .before .before .before .args .k)) (sym (c .before .before .before .before .shifted-alphabet .ensures))) (c .loop-test .taken) (c .before .loop .inv .walks)
+place-in-requires : tie.Need-place-in-requires Inv-loop μ-loop
+place-in-requires c κs = later-within (c .before .before .before .before .shifted-alphabet .result) (c .before .before .before .before .before .before .before .args .k) (c .before .before .before .before .before .before .before .args .c) (c .before .loop .q) (c .before .loop .bits) (c .before .loop .later) (c .before .before .before .before .before .before .before .pre .size ∙ ap (λ (x : ℕ). choose x (c .before .before .before .before .before .before .before .args .k)) (sym (c .before .before .before .before .shifted-alphabet .ensures))) (c .loop-test .taken) (c .before .loop .inv .walks)
 
-turned-requires-2 : tie.Need-turned-requires-2 Inv-loop μ-loop
-turned-requires-2 c κs = c .before .before .loop-test .taken
+place-in-requires-2 : tie.Need-place-in-requires-2 Inv-loop μ-loop
+place-in-requires-2 c κs = later-within (c .before .before .before .before .before .before .shifted-alphabet .result) (c .before .before .before .before .before .before .before .before .before .args .k) (c .before .before .before .before .before .before .before .before .before .args .c) (c .before .before .before .loop .q) (c .before .before .before .loop .bits) (c .before .before .before .loop .later) (c .before .before .before .before .before .before .before .before .before .pre .size ∙ ap (λ (x : ℕ). choose x (c .before .before .before .before .before .before .before .before .before .args .k)) (sym (c .before .before .before .before .before .before .shifted-alphabet .ensures))) (c .before .before .loop-test .taken) (c .before .before .before .loop .inv .walks)
 
 copy-entry-requires : tie.Need-copy-entry-requires Inv-loop μ-loop
 copy-entry-requires c κs =
     let l : (c .before .before .before .before .loop .later) < (c .before .before .before .before .before .before .before .before .before .before .args .c) = later-within (c .before .before .before .before .before .before .before .shifted-alphabet .result) (c .before .before .before .before .before .before .before .before .before .before .args .k) (c .before .before .before .before .before .before .before .before .before .before .args .c) (c .before .before .before .before .loop .q) (c .before .before .before .before .loop .bits) (c .before .before .before .before .loop .later) (c .before .before .before .before .before .before .before .before .before .before .pre .size ∙ ap (λ (x : ℕ). choose x (c .before .before .before .before .before .before .before .before .before .before .args .k)) (sym (c .before .before .before .before .before .before .before .shifted-alphabet .ensures))) (c .before .before .before .loop-test .taken) (c .before .before .before .before .loop .inv .walks) in (
-      omega (arith, c .before .before .turned .ensures, turned-below (not (c .before .before .before .before .before .before .before .before .before .before .args .back)) (c .before .before .before .before .before .before .before .before .before .before .args .c) (c .before .before .before .before .loop .later) l, c .before .before .before .before .before .before .before .before .before .before .pre .given),
-      omega (arith, c .turned2 .ensures, turned-below (c .before .before .before .before .before .before .before .before .before .before .args .back) (c .before .before .before .before .before .before .before .before .before .before .args .c) (c .before .before .before .before .loop .q) (c .before .before .before .loop-test .taken), c .before .before .before .before .loop .inv .written .long),
+      omega (arith, c .before .before .place-in .ensures, place-in-below (c .before .before .before .before .before .before .before .before .before .before .args .back) (c .before .before .before .before .before .before .before .before .before .before .args .c) (c .before .before .before .before .loop .q) (c .before .before .before .before .loop .later) (c .before .before .before .loop-test .taken) l, c .before .before .before .before .before .before .before .before .before .before .pre .given),
+      omega (arith, c .place-in2 .ensures, place-in-below (not (c .before .before .before .before .before .before .before .before .before .before .args .back)) (c .before .before .before .before .before .before .before .before .before .before .args .c) (c .before .before .before .before .loop .q) (c .before .before .before .before .loop .later) (c .before .before .before .loop-test .taken) l, c .before .before .before .before .loop .inv .written .long),
     )
 
 add-q : tie.Need-add-q Inv-loop μ-loop
@@ -67,7 +67,7 @@ loop-again : tie.Need-loop-again Inv-loop μ-loop
 loop-again c =
     record {
       within = omega (arith, c .before .before .before .before .before .before .before .before .before .loop-test .taken);
-      written = written-more (c .before .before .before .before .before .before .before .before .before .before .before .before .before .before .before .before .args .back) (c .before .before .before .before .before .before .before .before .before .before .before .before .before .shifted-alphabet .result) (c .before .before .before .before .before .before .before .before .before .before .before .before .before .before .before .before .args .k) (c .before .before .before .before .before .before .before .before .before .before .before .before .before .before .before .before .args .c) (c .before .before .before .before .before .before .before .before .before .before .before .before .before .before .before .before .args .from .now) (c .before .before .before .before .before .before .before .before .before .before .loop .out) _ (c .before .before .before .before .before .before .before .before .before .before .loop .q) (c .before .before .before .before .before .before .before .before .turned .result) (c .before .before .before .before .before .before .turned2 .result) (c .before .before .before .before .before .before .before .before .before .before .before .before .before .before .before .before .pre .given) (c .before .before .before .before .before .before .before .before .before .loop-test .taken) (omega (arith, c .before .before .before .before .before .before .before .before .turned .ensures, turned-below (not (c .before .before .before .before .before .before .before .before .before .before .before .before .before .before .before .before .args .back)) (c .before .before .before .before .before .before .before .before .before .before .before .before .before .before .before .before .args .c) (c .before .before .before .before .before .before .before .before .before .before .loop .later) (later-within (c .before .before .before .before .before .before .before .before .before .before .before .before .before .shifted-alphabet .result) (c .before .before .before .before .before .before .before .before .before .before .before .before .before .before .before .before .args .k) (c .before .before .before .before .before .before .before .before .before .before .before .before .before .before .before .before .args .c) (c .before .before .before .before .before .before .before .before .before .before .loop .q) (c .before .before .before .before .before .before .before .before .before .before .loop .bits) (c .before .before .before .before .before .before .before .before .before .before .loop .later) (c .before .before .before .before .before .before .before .before .before .before .before .before .before .before .before .before .pre .size ∙ ap (λ (x : ℕ). choose x (c .before .before .before .before .before .before .before .before .before .before .before .before .before .before .before .before .args .k)) (sym (c .before .before .before .before .before .before .before .before .before .before .before .before .before .shifted-alphabet .ensures))) (c .before .before .before .before .before .before .before .before .before .loop-test .taken) (c .before .before .before .before .before .before .before .before .before .before .loop .inv .walks)))) (c .before .before .before .before .before .before .before .before .turned .ensures ∙ ap (turned (not (c .before .before .before .before .before .before .before .before .before .before .before .before .before .before .before .before .args .back)) (c .before .before .before .before .before .before .before .before .before .before .before .before .before .before .before .before .args .c)) (c .before .before .before .before .before .before .before .before .before .before .loop .inv .walks .many (c .before .before .before .before .before .before .before .before .before .loop-test .taken))) (c .before .before .before .before .before .before .turned2 .ensures) (c .before .before .before .before .before .copy-entry .ensures) (c .before .before .before .before .before .before .before .before .before .before .loop .inv .written);
+      written = written-more (c .before .before .before .before .before .before .before .before .before .before .before .before .before .before .before .before .args .back) (c .before .before .before .before .before .before .before .before .before .before .before .before .before .shifted-alphabet .result) (c .before .before .before .before .before .before .before .before .before .before .before .before .before .before .before .before .args .k) (c .before .before .before .before .before .before .before .before .before .before .before .before .before .before .before .before .args .c) (c .before .before .before .before .before .before .before .before .before .before .before .before .before .before .before .before .args .from .now) (c .before .before .before .before .before .before .before .before .before .before .loop .out) _ (c .before .before .before .before .before .before .before .before .before .before .loop .q) (c .before .before .before .before .before .before .before .before .place-in .result) (c .before .before .before .before .before .before .place-in2 .result) (c .before .before .before .before .before .before .before .before .before .before .before .before .before .before .before .before .pre .given) (c .before .before .before .before .before .before .before .before .before .before .before .before .before .before .before .before .pre .size ∙ ap (λ (x : ℕ). choose x (c .before .before .before .before .before .before .before .before .before .before .before .before .before .before .before .before .args .k)) (sym (c .before .before .before .before .before .before .before .before .before .before .before .before .before .shifted-alphabet .ensures))) (c .before .before .before .before .before .before .before .before .before .loop-test .taken) (c .before .before .before .before .before .before .before .before .place-in .ensures ∙ ap (placeIn (c .before .before .before .before .before .before .before .before .before .before .before .before .before .before .before .before .args .back) (c .before .before .before .before .before .before .before .before .before .before .before .before .before .before .before .before .args .c) (c .before .before .before .before .before .before .before .before .before .before .loop .q)) (c .before .before .before .before .before .before .before .before .before .before .loop .inv .walks .many (c .before .before .before .before .before .before .before .before .before .loop-test .taken))) (c .before .before .before .before .before .before .place-in2 .ensures ∙ ap (placeIn (not (c .before .before .before .before .before .before .before .before .before .before .before .before .before .before .before .before .args .back)) (c .before .before .before .before .before .before .before .before .before .before .before .before .before .before .before .before .args .c) (c .before .before .before .before .before .before .before .before .before .before .loop .q)) (c .before .before .before .before .before .before .before .before .before .before .loop .inv .walks .many (c .before .before .before .before .before .before .before .before .before .loop-test .taken))) (c .before .before .before .before .before .copy-entry .ensures) (c .before .before .before .before .before .before .before .before .before .before .loop .inv .written);
       walks = walks-on (c .before .before .before .before .before .before .before .before .before .before .before .before .before .shifted-alphabet .result) (c .before .before .before .before .before .before .before .before .before .before .before .before .before .before .before .before .args .k) (c .before .before .before .before .before .before .before .before .before .before .before .before .before .before .before .before .args .c) (c .before .before .before .before .before .before .before .before .before .before .loop .q) (c .before .before .before .before .before .before .before .before .before .before .loop .bits) (c .before .before .before .before .before .before .before .before .before .before .loop .later) (c .successor .result) (c .before .next-later .result) (c .before .before .before .before .before .before .before .before .before .before .before .before .before .before .before .before .pre .size ∙ ap (λ (x : ℕ). choose x (c .before .before .before .before .before .before .before .before .before .before .before .before .before .before .before .before .args .k)) (sym (c .before .before .before .before .before .before .before .before .before .before .before .before .before .shifted-alphabet .ensures))) (omega (arith, c .before .before .before .before .before .before .before .before .before .before .before .before .before .before .before .before .pre .narrow, c .before .before .before .before .before .before .before .before .before .before .before .before .before .shifted-alphabet .ensures)) (omega (arith, c .before .before .if1 .taken)) (c .before .before .before .before .before .before .before .before .before .before .loop .inv .walks) (c .successor .ensures) (c .before .next-later .ensures);
     }
 
@@ -78,7 +78,7 @@ loop-again-2 : tie.Need-loop-again-2 Inv-loop μ-loop
 loop-again-2 c =
     record {
       within = omega (arith, c .before .before .before .before .before .before .before .loop-test .taken);
-      written = written-more (c .before .before .before .before .before .before .before .before .before .before .before .before .before .before .args .back) (c .before .before .before .before .before .before .before .before .before .before .before .shifted-alphabet .result) (c .before .before .before .before .before .before .before .before .before .before .before .before .before .before .args .k) (c .before .before .before .before .before .before .before .before .before .before .before .before .before .before .args .c) (c .before .before .before .before .before .before .before .before .before .before .before .before .before .before .args .from .now) (c .before .before .before .before .before .before .before .before .loop .out) _ (c .before .before .before .before .before .before .before .before .loop .q) (c .before .before .before .before .before .before .turned .result) (c .before .before .before .before .turned2 .result) (c .before .before .before .before .before .before .before .before .before .before .before .before .before .before .pre .given) (c .before .before .before .before .before .before .before .loop-test .taken) (omega (arith, c .before .before .before .before .before .before .turned .ensures, turned-below (not (c .before .before .before .before .before .before .before .before .before .before .before .before .before .before .args .back)) (c .before .before .before .before .before .before .before .before .before .before .before .before .before .before .args .c) (c .before .before .before .before .before .before .before .before .loop .later) (later-within (c .before .before .before .before .before .before .before .before .before .before .before .shifted-alphabet .result) (c .before .before .before .before .before .before .before .before .before .before .before .before .before .before .args .k) (c .before .before .before .before .before .before .before .before .before .before .before .before .before .before .args .c) (c .before .before .before .before .before .before .before .before .loop .q) (c .before .before .before .before .before .before .before .before .loop .bits) (c .before .before .before .before .before .before .before .before .loop .later) (c .before .before .before .before .before .before .before .before .before .before .before .before .before .before .pre .size ∙ ap (λ (x : ℕ). choose x (c .before .before .before .before .before .before .before .before .before .before .before .before .before .before .args .k)) (sym (c .before .before .before .before .before .before .before .before .before .before .before .shifted-alphabet .ensures))) (c .before .before .before .before .before .before .before .loop-test .taken) (c .before .before .before .before .before .before .before .before .loop .inv .walks)))) (c .before .before .before .before .before .before .turned .ensures ∙ ap (turned (not (c .before .before .before .before .before .before .before .before .before .before .before .before .before .before .args .back)) (c .before .before .before .before .before .before .before .before .before .before .before .before .before .before .args .c)) (c .before .before .before .before .before .before .before .before .loop .inv .walks .many (c .before .before .before .before .before .before .before .loop-test .taken))) (c .before .before .before .before .turned2 .ensures) (c .before .before .before .copy-entry .ensures) (c .before .before .before .before .before .before .before .before .loop .inv .written);
+      written = written-more (c .before .before .before .before .before .before .before .before .before .before .before .before .before .before .args .back) (c .before .before .before .before .before .before .before .before .before .before .before .shifted-alphabet .result) (c .before .before .before .before .before .before .before .before .before .before .before .before .before .before .args .k) (c .before .before .before .before .before .before .before .before .before .before .before .before .before .before .args .c) (c .before .before .before .before .before .before .before .before .before .before .before .before .before .before .args .from .now) (c .before .before .before .before .before .before .before .before .loop .out) _ (c .before .before .before .before .before .before .before .before .loop .q) (c .before .before .before .before .before .before .place-in .result) (c .before .before .before .before .place-in2 .result) (c .before .before .before .before .before .before .before .before .before .before .before .before .before .before .pre .given) (c .before .before .before .before .before .before .before .before .before .before .before .before .before .before .pre .size ∙ ap (λ (x : ℕ). choose x (c .before .before .before .before .before .before .before .before .before .before .before .before .before .before .args .k)) (sym (c .before .before .before .before .before .before .before .before .before .before .before .shifted-alphabet .ensures))) (c .before .before .before .before .before .before .before .loop-test .taken) (c .before .before .before .before .before .before .place-in .ensures ∙ ap (placeIn (c .before .before .before .before .before .before .before .before .before .before .before .before .before .before .args .back) (c .before .before .before .before .before .before .before .before .before .before .before .before .before .before .args .c) (c .before .before .before .before .before .before .before .before .loop .q)) (c .before .before .before .before .before .before .before .before .loop .inv .walks .many (c .before .before .before .before .before .before .before .loop-test .taken))) (c .before .before .before .before .place-in2 .ensures ∙ ap (placeIn (not (c .before .before .before .before .before .before .before .before .before .before .before .before .before .before .args .back)) (c .before .before .before .before .before .before .before .before .before .before .before .before .before .before .args .c) (c .before .before .before .before .before .before .before .before .loop .q)) (c .before .before .before .before .before .before .before .before .loop .inv .walks .many (c .before .before .before .before .before .before .before .loop-test .taken))) (c .before .before .before .copy-entry .ensures) (c .before .before .before .before .before .before .before .before .loop .inv .written);
       walks = walks-past (c .before .before .before .before .before .before .before .before .before .before .before .shifted-alphabet .result) (c .before .before .before .before .before .before .before .before .before .before .before .before .before .before .args .k) (c .before .before .before .before .before .before .before .before .before .before .before .before .before .before .args .c) (c .before .before .before .before .before .before .before .before .loop .q + 1) (c .before .before .before .before .before .before .before .before .loop .bits) (c .before .before .before .before .before .before .before .before .loop .later) (omega (arith, c .if1 .left));
     }
 
@@ -98,8 +98,8 @@ write-spec =
     low-mask-requires
     wrapping-sub-u64-requires
     loop-holds
-    turned-requires
-    turned-requires-2
+    place-in-requires
+    place-in-requires-2
     copy-entry-requires
     add-q
     next-later-requires
