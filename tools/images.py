@@ -1,7 +1,8 @@
 #!/usr/bin/env python3
 """Requests of `ask` about images of coefficient tables, one to a line, for a comparison with the model:
 
-    images.py all               of several images every truncation, every value of each byte of the contents list, every cut in two, and every cut in three up to byte 60
+    images.py all               of several images every truncation, every value of each byte of the contents list, every cut in two and in three, of a
+                                longer one in three at its first 100 bytes, its last 8 and every 24th
     images.py drawn N [SEED]    N requests about images that are good, damaged, cut or made up
 
     tools/images.py drawn 100000 | tee target/requests | ./ask >target/answers
@@ -63,7 +64,8 @@ def everything():
             asked("imagewrite", hexed(whole[:i]), hexed(whole[i:]))
             for part in ((), ("end",), ("00",), ("end", "00")):
                 asked("pieces", hexed(whole[:i]), hexed(whole[i:]), *part)
-        for i, j in itertools.combinations_with_replacement(range(min(len(whole), 60) + 1), 2):
+        places = [i for i in range(len(whole) + 1) if i <= 100 or i % 24 == 0 or len(whole) - i <= 8]
+        for i, j in itertools.combinations_with_replacement(places, 2):
             asked("pieces", hexed(whole[:i]), hexed(whole[i:j]), hexed(whole[j:]), "end")
     whole = image(WHOLE)
     for b in (whole, whole[:-1], whole + b"\0", image(WHOLE + [(0, 0, 0)])):
