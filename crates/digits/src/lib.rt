@@ -1,7 +1,7 @@
 // Digit words (document 01, "Shapes, digit words, exponents"): a radix, a degree of at most 64 and a rank, which is the word as a positional number, position 0
 // least significant. Their count, and their symbols. Multiplicities, concatenation and deletion are `digits_algebra`'s.
 ghost use mathlib.Core.Path.{_≡_};
-ghost use Prim.Native.Nat.{_^_, _<_, _≤_};
+ghost use Prim.Native.Nat.{_%_, _^_, _<_, _≤_};
 ghost use lib.ListN.{length, replicate};
 ghost use Rattle.words.specs.Word.{Below};
 ghost use Rattle.answers.specs.Says.{answerSays, placesOf, after, gives};
@@ -30,20 +30,40 @@ pub enum Deleted {
     Refused(Refusal),
 }
 
-// The radix to a power: 9 if that is 2^64 or more. 0^0 is 1.
+// The base if so many factors are left that one stands alone beside their pairs; otherwise 1.
+fn odd_factor(base: u64, left: u64) -> u64
+    ensures { λ r. ⌜ r ≡ base ^ (left % 2) ⌝ }
+{
+    if left % 2 == 0 {
+        return 1;
+    }
+    base
+}
+
+// The radix to a power, by squares: 9 if that is 2^64 or more. 0^0 is 1.
 pub fn power(radix: u64, degree: u64) -> Answer
     ensures { λ r. ⌜ answerSays r ≡ numberSays (radix ^ degree) ⌝ }
 {
     let mut product: u64 = 1;
-    let mut i: u64 = 0;
-    while i < degree {
-        if cartesian::exceeds(product, radix) {
+    let mut base = radix;
+    let mut left = degree;
+    while 1 < left {
+        let odd = odd_factor(base, left);
+        if cartesian::exceeds(product, odd) {
             return Answer::Refused(Refusal::TooBig);
         }
-        product *= radix;
-        i += 1;
+        if cartesian::exceeds(base, base) {
+            return Answer::Refused(Refusal::TooBig);
+        }
+        product *= odd;
+        base *= base;
+        left /= 2;
     }
-    Answer::Is(product)
+    let odd = odd_factor(base, left);
+    if cartesian::exceeds(product, odd) {
+        return Answer::Refused(Refusal::TooBig);
+    }
+    Answer::Is(product * odd)
 }
 
 // How many words of a degree there are over a radix: 1 if the degree is above 64; 9.
