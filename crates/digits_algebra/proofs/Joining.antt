@@ -2,7 +2,7 @@
 --   concat-passed    two words that pass their checks
 --   joined-long, joined-is, joined-small    how many symbols; the rank of x, and above it that of y times the count of x, is the number of their symbols in a row; it is below the joint count
 --   taken-long, taken-is, taken-small    how many symbols are left; the rank below the stride, and above it what lies past the position, is the number without that position; it is no greater than the rank
---   joint-rank, joined-given, taken-given    so the ranks that the calls make, and what they give
+--   joint-rank, joint-count, joined-given, taken-given    so the ranks and the count that the calls make, and what they give
 use mathlib.Core.Path.{_≡_, sym, ap, ap₂, subst, _∙_}
 use mathlib.Core.List.{List, _++_}
 use Prim.Native.Nat.{ℕ, suc, _+_, _-_, _*_, _/_, _%_, _^_, _≤_, _<_}
@@ -10,6 +10,7 @@ use native.Mathlib.Nat.{mul-comm, mul-le-mul-right, div-add-mod', div-le-self, d
 use native.Mathlib.Omega.{arith}
 use borrow.Author.Tests.{le-ltb, lt-leb, eq-eqb}
 use lib.ListN.{length, replicate, length-append, length-replicate, replicate-append-replicate}
+use lib.Pow.{pow-add}
 use Rattle.answers.specs.Says.{gives}
 use Rattle.words.specs.Without.{without}
 use Rattle.words.proofs.Positions.{without-long}
@@ -122,3 +123,7 @@ pub joint-rank : (x y : DigitWord) (s : ℕ) → x .rank < x .radix ^ x .degree 
     → x .rank + y .rank * s < x .radix ^ (x .degree + y .degree)
 joint-rank x y s low high same q =
     joined-small (x .radix) (x .degree) (x .rank) (y .degree) (y .rank) s low (subst (λ (m : ℕ). y .rank < m ^ y .degree) (sym same) high) q
+
+-- the counts of two words of one radix make that of the word of both
+pub joint-count : (x y : DigitWord) (s t : ℕ) → s ≡ x .radix ^ x .degree → t ≡ y .radix ^ y .degree → x .radix ≡ y .radix → s * t ≡ x .radix ^ (x .degree + y .degree)
+joint-count x y s t e f same = ap₂ (λ (a b : ℕ). a * b) e (f ∙ ap (λ (n : ℕ). n ^ y .degree) (sym same)) ∙ sym (pow-add (x .radix) (x .degree) (y .degree))

@@ -88,7 +88,7 @@ pub fn concat(x: DigitWord, y: DigitWord) -> Worded
         return Worded::Refused(e);
     };
     let b = digits::check(y);
-    let Answer::Is(_) = b else {
+    let Answer::Is(others) = b else {
         let Answer::Refused(e) = b else {
             return Worded::Refused(Refusal::TooWide);
         };
@@ -101,9 +101,9 @@ pub fn concat(x: DigitWord, y: DigitWord) -> Worded
     if 64 < degree {
         return Worded::Refused(Refusal::TooWide);
     }
-    let Answer::Is(_) = digits::power(radix, degree) else {
+    if cartesian::exceeds(stride, others) {
         return Worded::Refused(Refusal::TooBig);
-    };
+    }
     let rank = low + high * stride;
     Worded::Is(DigitWord {
         radix,
