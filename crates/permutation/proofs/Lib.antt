@@ -4,3 +4,4 @@ pub mod Taken
 pub mod Filled
 pub mod Arranging
 pub mod Promises
+pub mod Apart

@@ -7,7 +7,6 @@
 --   Whole p    the record has all its entries, as each of a program has
 --   GoodRecord p    the record holds a permutation, not longer than the capacity, and nothing but zeros past it
 --   Agree p q    both do, and they have one length
---   Small e from to x    the entries of a record before place `to`, and x, are no greater than the capacity, and the places are within the entries
 --   verdictSays v a    what a verdict means that stands beside the value a
 --   signatureSays, arrangedSays    what each case of an answer means
 --   recordBeside s    the record beside the verdict: that of the list, and after a refusal that of the empty one
@@ -16,7 +15,7 @@
 use mathlib.Core.Path.{_≡_}
 use mathlib.Core.Bool.{Bool, true, false}
 use mathlib.Core.List.{List, [], _∷_, _++_}
-use Prim.Native.Nat.{ℕ, _≤_, _<_}
+use Prim.Native.Nat.{ℕ, _≤_}
 use lib.Dec.{eqb}
 use lib.ListN.{length, take, drop, getD, replicate}
 use Rattle.words.specs.Pick.{pick}
@@ -59,13 +58,6 @@ pub record Agree (p q : Permutation) : Type 0 where
   pub left : GoodRecord p
   pub right : GoodRecord q
   pub lengths : p .len ≡ q .len
-
-pub record Small (e : List ℕ) (from to x : ℕ) : Type 0 where
-  pub order : from ≤ to
-  pub within : to ≤ capacity
-  pub least : x ≤ capacity
-  pub entries : (k : ℕ) → k < to → getD e k 0 < capacity
-  pub long : length e ≡ capacity
 
 -- ---- what each case of an answer means
 

@@ -39,22 +39,23 @@ pub struct Arranged {
     pub value: Permutation,
 }
 
-// Whether the first n entries are a bijection of 0 .. n-1.
+// Whether the first n entries are a bijection of 0 .. n-1: each is held against the set of those seen.
 fn is_permutation(entries: &[u64; CAPACITY], n: u64) -> bool
     requires { ⌜ (n ≤ capacity) × (length (now entries) ≡ capacity) ⌝ }
     ensures { λ r. ⌜ r ≡ isPermutation (take n (now (entries .entry))) ⌝ }
 {
-    let mut seen = [false; CAPACITY];
+    let mut seen = 0u64;
     let mut i = 0u64;
     while i < n {
         let x = entries[i as usize];
         if x >= n {
             return false;
         }
-        if seen[x as usize] {
+        let one = 1u64 << x;
+        if seen & one != 0 {
             return false;
         }
-        seen[x as usize] = true;
+        seen = seen | one;
         i += 1;
     }
     true

@@ -29,21 +29,22 @@ fn numbered(p: Permutation) -> Verdict
     permutation::checked(p)
 }
 
-// The sum of d_j times j!, where d_j counts the smaller entries left of place j.
+// The sum of d_j times j!, where d_j counts the smaller entries left of place j, which are those of the set of the entries seen.
 fn weight(p: Permutation) -> u64
-    requires { ⌜ p .len ≤ longestNumbered ⌝ }
+    requires { ⌜ GoodRecord p × (p .len ≤ longestNumbered) ⌝ }
     ensures { λ r. ⌜ r ≡ arrangementRank (arrangementOf p) ⌝ }
 {
     let n = p.len;
-    let entries = p.entries;
-    let table = count::factorials();
+    let mut seen = 0u64;
+    let mut factorial = 1u64;
     let mut sum = 0u64;
     let mut j = 0u64;
     while j < n {
-        let x = entries[j as usize];
-        let f = table[j as usize];
-        sum += permutation_group::smaller(&entries, 0, j, x) * f;
+        let x = p.entries[j as usize];
+        sum += bits::below(seen, x) * factorial;
+        seen += 1u64 << x;
         j += 1;
+        factorial *= j;
     }
     sum
 }

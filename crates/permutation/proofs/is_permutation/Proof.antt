@@ -1,22 +1,23 @@
--- `permutation::is_permutation` meets its contract: the marks are those of the entries passed. Assumes nothing.
+-- `permutation::is_permutation` meets its contract: the digits of the marks are the entries passed. Assumes nothing.
 use mathlib.Core.Path.{_≡_, sym}
 use Prim.Native.Nat.{_≤_, _-_}
 use native.Mathlib.Omega.{arith}
 use denote.Ref.{now}
-use lib.ListN.{length}
+use lib.ListN.{length, getD}
+use Rattle.seen.proofs.Turns.{one-digit}
 use Rattle.permutation.specs.Record.{capacity}
 use Rattle.permutation.proofs.Seen.{Seen, seen-none, seen-more, seen-all, seen-large, seen-again}
 use Rattle.permutation.proofs.is_permutation.Statement.{statement}
 use Rattle.permutation.proofs.is_permutation.Tie as tie
 
 abbrev Inv-loop : tie.InvT-loop
-Inv-loop entries n seen₀ i₀ seen i = (i ≤ n) × (length entries ≡ capacity) × Seen capacity entries n i seen
+Inv-loop entries n seen₀ i₀ seen i = (i ≤ n) × (length entries ≡ capacity) × Seen entries n i seen
 
 abbrev μ-loop : tie.MeasureT-loop
 μ-loop entries n seen₀ i₀ seen i = n - i
 
 loop-holds : tie.Need-loop-holds Inv-loop μ-loop
-loop-holds c = (omega arith, c .pre .1, seen-none capacity (now (c .args .entries)) (c .args .n))
+loop-holds c = (omega arith, c .pre .1, seen-none (now (c .args .entries)) (c .args .n))
 
 mul-x : tie.Need-mul-x Inv-loop μ-loop
 mul-x c = omega arith
@@ -30,17 +31,15 @@ returns c =
     let i = c .before .before .before .loop in
     sym (seen-large (now (s .args .entries)) (s .args .n) (omega (arith, s .pre .0, s .pre .1)) (i .i) (c .before .before .loop-test .taken) (c .if1 .taken))
 
-array-read-if2 : tie.Need-array-read-if2 Inv-loop μ-loop
-array-read-if2 c = omega arith
+shl-one : tie.Need-shl-one Inv-loop μ-loop
+shl-one c = omega arith
 
 returns-2 : tie.Need-returns-2 Inv-loop μ-loop
 returns-2 c =
     let s = c .before .before .before .before .before in
     let i = c .before .before .before .before .loop in
-    sym (seen-again (now (s .args .entries)) (s .args .n) (omega (arith, s .pre .0, s .pre .1)) capacity (i .i) (i .seen) (i .inv .2) (c .before .before .before .loop-test .taken) (c .if2 .taken))
-
-array-write-seen : tie.Need-array-write-seen Inv-loop μ-loop
-array-write-seen c = omega arith
+    let e = now (s .args .entries) in
+    sym (seen-again e (s .args .n) (omega (arith, s .pre .0, s .pre .1)) (i .i) (i .seen) _ (i .inv .2) (c .before .before .before .loop-test .taken) (one-digit 64 (getD e (i .i) 0) (omega (arith, s .pre .0, c .before .if1 .left))) (c .if2 .taken))
 
 add-i : tie.Need-add-i Inv-loop μ-loop
 add-i c = omega arith
@@ -52,13 +51,14 @@ loop-again : tie.Need-loop-again Inv-loop μ-loop
 loop-again c =
     let s = c .before .before .before .before .before in
     let i = c .before .before .before .before .loop in
-    (omega arith, i .inv .1, seen-more capacity (now (s .args .entries)) (s .args .n) (i .i) (i .seen) (i .inv .2) (s .pre .0) (c .before .if1 .left) (c .if2 .left))
+    let e = now (s .args .entries) in
+    (omega arith, i .inv .1, seen-more e (s .args .n) (i .i) (i .seen) _ (i .inv .2) (c .before .if1 .left) (one-digit 64 (getD e (i .i) 0) (omega (arith, s .pre .0, c .before .if1 .left))) (c .if2 .left))
 
 returns-3 : tie.Need-returns-3 Inv-loop μ-loop
 returns-3 c =
     let s = c .before .before in
     let i = c .before .loop in
-    sym (seen-all (now (s .args .entries)) (s .args .n) (omega (arith, s .pre .0, s .pre .1)) capacity (i .i) (i .seen) (i .inv .2) (c .loop-test .left))
+    sym (seen-all (now (s .args .entries)) (s .args .n) (omega (arith, s .pre .0, s .pre .1)) (i .i) (i .seen) (i .inv .2) (c .loop-test .left))
 
 pub is-permutation-spec : {M : Type 1} → statement M
 is-permutation-spec =
@@ -70,9 +70,8 @@ is-permutation-spec =
     mul-x
     element-copy-out-x
     returns
-    array-read-if2
+    shl-one
     returns-2
-    array-write-seen
     add-i
     loop-less
     loop-again

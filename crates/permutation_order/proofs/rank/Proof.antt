@@ -14,7 +14,9 @@ enum-told : tie.Need-enum-told
 enum-told c = search needs
 
 weight-requires : tie.Need-weight-requires
-weight-requires c κs = numbered-gives (c .before .before .before .args .p) _ (c .before .before .numbered .ensures) (c .enum-told .given .1) (search needs) .few
+weight-requires c κs =
+    let h = numbered-gives (c .before .before .before .args .p) _ (c .before .before .numbered .ensures) (c .enum-told .given .1) (search needs) in
+    (h .holds, h .few)
 
 returns : tie.Need-returns
 returns c = simp (numbered-refuses (c .before .before .before .before .args .p) _ (c .before .before .before .numbered .ensures) _ (c .before .e .given .1))
