@@ -1,0 +1,4 @@
+pub mod Exactly
+pub mod Terms
+pub mod Alphabets
+pub mod Same

@@ -1,0 +1,1 @@
+// What documents 01 and 02 demand of wide terms, as theorems over the definitions of their calls. No code.
