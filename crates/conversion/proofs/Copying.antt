@@ -1,5 +1,5 @@
 -- The bytes of one entry, and an entry put in its place. Assumes nothing.
---   copy-turn    one byte of an entry
+--   copied-eight    the eight bytes of an entry, one after the other
 --   put j e out    out with the entry e at place j
 --   put-long, put-here, put-elsewhere    it is as long, has e at that place, and elsewhere what it had
 --   entries-none, entries-some    the test of a length
@@ -15,15 +15,30 @@ use native.Mathlib.Omega.{arith}
 use borrow.Author.Tests.{eq-eqb, ne-eqb}
 use lib.Dec.{eqb}
 use lib.ListN.{length, getD, take, drop, set, length-drop, length-append, take-append-drop}
-use lib.Seq.{paste, paste-suc, getD-drop, length-take-le, take-at, take-all, take-append-le, drop-at, drop-append-le, drop-append-add, drop-drop, drop-length}
+use lib.Seq.{paste, paste-zero, paste-suc, getD-drop, length-take-le, take-at, take-all, take-append-le, drop-at, drop-append-le, drop-append-add, drop-drop, drop-length}
 use Rattle.lexicographic.specs.Entries.{entryAt}
 
-pub copy-turn : (d f out : List ℕ) (t s b : ℕ) → out ≡ paste d t (drop s f) b → t + b < length d → s + b < length f
-    → set out (t + b) (getD f (s + b) 0) ≡ paste d t (drop s f) (b + 1)
-copy-turn d f out t s b e h l =
-    ap₂ (λ (o : List ℕ) (x : ℕ). set o (t + b) x) e (sym (getD-drop s f b 0))
-    ∙ paste-suc d t (drop s f) b 0 h (omega (arith, length-drop s f))
-    ∙ ap (paste d t (drop s f)) (sym (add-one b))
+module _ (d f : List ℕ) (t s : ℕ) where
+  -- one byte
+  copy-turn : (b : ℕ) (out : List ℕ) → out ≡ paste d t (drop s f) b → t + b < length d → s + b < length f
+      → set out (t + b) (getD f (s + b) 0) ≡ paste d t (drop s f) (b + 1)
+  copy-turn b out e h l =
+      ap₂ (λ (o : List ℕ) (x : ℕ). set o (t + b) x) e (sym (getD-drop s f b 0))
+      ∙ paste-suc d t (drop s f) b 0 h (omega (arith, length-drop s f))
+      ∙ ap (paste d t (drop s f)) (sym (add-one b))
+
+  pub copied-eight : t + 8 ≤ length d → s + 8 ≤ length f
+      → set (set (set (set (set (set (set (set d t (getD f s 0)) (t + 1) (getD f (s + 1) 0)) (t + 2) (getD f (s + 2) 0)) (t + 3) (getD f (s + 3) 0)) (t + 4) (getD f (s + 4) 0)) (t + 5) (getD f (s + 5) 0)) (t + 6) (getD f (s + 6) 0)) (t + 7) (getD f (s + 7) 0)
+      ≡ paste d t (drop s f) 8
+  copied-eight h l = on 7 _ (on 6 _ (on 5 _ (on 4 _ (on 3 _ (on 2 _ (on 1 _ first (omega arith)) (omega arith)) (omega arith)) (omega arith)) (omega arith)) (omega arith)) (omega arith)
+    where
+      on : (b : ℕ) (o : List ℕ) → o ≡ paste d t (drop s f) b → b < 8 → set o (t + b) (getD f (s + b) 0) ≡ paste d t (drop s f) (b + 1)
+      on b o e k = copy-turn b o e (omega arith) (omega arith)
+
+      first : set d t (getD f s 0) ≡ paste d t (drop s f) 1
+      first =
+          ap₂ (λ (i x : ℕ). set d i x) (omega arith) (ap (λ (i : ℕ). getD f i 0) (omega arith))
+          ∙ on 0 d (paste-zero d t (drop s f)) (omega arith)
 
 -- ---- an entry in its place
 

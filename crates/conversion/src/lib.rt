@@ -35,18 +35,29 @@ fn place_in(colex: bool, c: u64, q: u64, later: u64) -> u64
     c - 1 - later
 }
 
-// Copies entry i of one buffer to entry j of the other.
+// Copies entry i of one buffer to entry j of the other. All eight bytes are read before the first is written, so that they are moved as one number.
 fn copy_entry(from: &[u8], i: u64, out: &mut [u8], j: u64)
     requires { ⌜ (8 * i + 8 ≤ length (now from)) × (8 * j + 8 ≤ length (now out)) ⌝ }
     ensures { λ r. ⌜ now (out .exit) ≡ take (8 * j) (now (out .entry)) ++ entryAt (now (from .entry)) i ++ drop (8 * j + 8) (now (out .entry)) ⌝ }
 {
     let s = (8 * i) as usize;
     let t = (8 * j) as usize;
-    let mut b = 0;
-    while b < 8 {
-        out[t + b] = from[s + b];
-        b += 1;
-    }
+    let a = from[s];
+    let b = from[s + 1];
+    let c = from[s + 2];
+    let d = from[s + 3];
+    let e = from[s + 4];
+    let f = from[s + 5];
+    let g = from[s + 6];
+    let h = from[s + 7];
+    out[t] = a;
+    out[t + 1] = b;
+    out[t + 2] = c;
+    out[t + 3] = d;
+    out[t + 4] = e;
+    out[t + 5] = f;
+    out[t + 6] = g;
+    out[t + 7] = h;
 }
 
 // Writes the entries in the other order. The sets are walked in colex order, with how many stand later in lexicographic order, so that both places of each are known:

@@ -1,73 +1,149 @@
--- `conversion::copy_entry` meets its contract: one byte a turn. Assumes nothing.
+-- `conversion::copy_entry` meets its contract: the eight bytes are read, and then written, one after the other. Assumes nothing.
 use borrow.Author.Needs.{needs}
 use native.Mathlib.Omega.{arith}
-use mathlib.Core.Path.{_≡_, ap, _∙_}
-use Prim.Native.Nat.{ℕ, _≤_, _-_, _*_}
-use lib.ListN.{length, drop, length-drop}
-use lib.Seq.{paste, paste-zero, length-paste}
-use Rattle.conversion.proofs.Copying.{copy-turn}
+use Prim.Native.Nat.{_*_}
+use lib.ListN.{length-set}
+use Rattle.conversion.proofs.Copying.{copied-eight}
 use Rattle.conversion.proofs.copy_entry.Statement.{statement}
 use Rattle.conversion.proofs.copy_entry.Tie as tie
 
-abbrev Inv-loop : tie.InvT-loop
-Inv-loop from i out₀ j s t b₀ out b = (b ≤ 8) × (out ≡ paste out₀ (8 * j) (drop (8 * i) from) b)
+mul-s : tie.Need-mul-s
+mul-s c = search needs
 
-abbrev μ-loop : tie.MeasureT-loop
-μ-loop from i out₀ j s t b₀ out b = 8 - b
+mul-t : tie.Need-mul-t
+mul-t c = search needs
 
-mul-s : tie.Need-mul-s Inv-loop μ-loop
-mul-s c = omega (arith, c .pre .0)
+shared-slice-read-a : tie.Need-shared-slice-read-a
+shared-slice-read-a c = search needs
 
-mul-t : tie.Need-mul-t Inv-loop μ-loop
-mul-t c = omega (arith, c .pre .1)
+add-b : tie.Need-add-b
+add-b c = search needs
 
-loop-holds : tie.Need-loop-holds Inv-loop μ-loop
-loop-holds c = (omega arith, paste-zero (c .args .out .now) (8 * c .args .j) (drop (8 * c .args .i) (c .args .from .now)))
+shared-slice-read-b : tie.Need-shared-slice-read-b
+shared-slice-read-b c = search needs
 
-add-out : tie.Need-add-out Inv-loop μ-loop
-add-out c = omega (arith, c .before .before .pre .0)
+add-c : tie.Need-add-c
+add-c c = search needs
 
-shared-slice-read-out : tie.Need-shared-slice-read-out Inv-loop μ-loop
-shared-slice-read-out c = omega (arith, c .before .before .before .pre .0)
+shared-slice-read-c : tie.Need-shared-slice-read-c
+shared-slice-read-c c = search needs
 
-add-out-2 : tie.Need-add-out-2 Inv-loop μ-loop
-add-out-2 c = omega (arith, c .before .before .before .pre .1)
+add-d : tie.Need-add-d
+add-d c = search needs
 
-slice-write-out : tie.Need-slice-write-out Inv-loop μ-loop
-slice-write-out c = omega (arith, c .before .before .before .pre .1, ap length (c .before .before .loop .inv .1), length-paste (c .before .before .before .args .out .now) (8 * c .before .before .before .args .j) (drop (8 * c .before .before .before .args .i) (c .before .before .before .args .from .now)) (c .before .before .loop .b) (omega (arith, c .before .before .before .pre .1)) (omega (arith, c .before .before .before .pre .0, length-drop (8 * c .before .before .before .args .i) (c .before .before .before .args .from .now))))
+shared-slice-read-d : tie.Need-shared-slice-read-d
+shared-slice-read-d c = search needs
 
-add-b : tie.Need-add-b Inv-loop μ-loop
-add-b c = omega arith
+add-e : tie.Need-add-e
+add-e c = search needs
 
-loop-less : tie.Need-loop-less Inv-loop μ-loop
-loop-less c = omega arith
+shared-slice-read-e : tie.Need-shared-slice-read-e
+shared-slice-read-e c = search needs
 
-loop-again : tie.Need-loop-again Inv-loop μ-loop
-loop-again c = (omega arith, copy-turn (c .before .before .before .args .out .now) (c .before .before .before .args .from .now) (c .before .before .loop .out) (8 * c .before .before .before .args .j) (8 * c .before .before .before .args .i) (c .before .before .loop .b) (c .before .before .loop .inv .1) (omega (arith, c .before .before .before .pre .1)) (omega (arith, c .before .before .before .pre .0)))
+add-f : tie.Need-add-f
+add-f c = search needs
 
-same-length : tie.Need-same-length Inv-loop μ-loop
-same-length c = omega (arith, ap length (c .before .loop .inv .1), length-paste (c .before .before .args .out .now) (8 * c .before .before .args .j) (drop (8 * c .before .before .args .i) (c .before .before .args .from .now)) (c .before .loop .b) (omega (arith, c .before .before .pre .1)) (omega (arith, c .before .before .pre .0, length-drop (8 * c .before .before .args .i) (c .before .before .args .from .now))))
+shared-slice-read-f : tie.Need-shared-slice-read-f
+shared-slice-read-f c = search needs
 
-returns : tie.Need-returns Inv-loop μ-loop
-returns c =
-    let e : c .before .loop .b ≡ 8 = omega arith in
-    c .before .loop .inv .1 ∙ ap (paste (c .before .before .args .out .now) (8 * c .before .before .args .j) (drop (8 * c .before .before .args .i) (c .before .before .args .from .now))) e
+add-g : tie.Need-add-g
+add-g c = search needs
+
+shared-slice-read-g : tie.Need-shared-slice-read-g
+shared-slice-read-g c = search needs
+
+add-h : tie.Need-add-h
+add-h c = search needs
+
+shared-slice-read-h : tie.Need-shared-slice-read-h
+shared-slice-read-h c = search needs
+
+slice-write-out : tie.Need-slice-write-out
+slice-write-out c = search needs
+
+add-out : tie.Need-add-out
+add-out c = search needs
+
+slice-write-out-2 : tie.Need-slice-write-out-2
+slice-write-out-2 c = simp length-set (omega (arith, c .before .before .before .before .before .before .before .before .pre .1))
+
+add-out-2 : tie.Need-add-out-2
+add-out-2 c = search needs
+
+slice-write-out-3 : tie.Need-slice-write-out-3
+slice-write-out-3 c = simp length-set (omega (arith, c .before .before .before .before .before .before .before .before .pre .1))
+
+add-out-3 : tie.Need-add-out-3
+add-out-3 c = search needs
+
+slice-write-out-4 : tie.Need-slice-write-out-4
+slice-write-out-4 c = simp length-set (omega (arith, c .before .before .before .before .before .before .before .before .pre .1))
+
+add-out-4 : tie.Need-add-out-4
+add-out-4 c = search needs
+
+slice-write-out-5 : tie.Need-slice-write-out-5
+slice-write-out-5 c = simp length-set (omega (arith, c .before .before .before .before .before .before .before .before .pre .1))
+
+add-out-5 : tie.Need-add-out-5
+add-out-5 c = search needs
+
+slice-write-out-6 : tie.Need-slice-write-out-6
+slice-write-out-6 c = simp length-set (omega (arith, c .before .before .before .before .before .before .before .before .pre .1))
+
+add-out-6 : tie.Need-add-out-6
+add-out-6 c = search needs
+
+slice-write-out-7 : tie.Need-slice-write-out-7
+slice-write-out-7 c = simp length-set (omega (arith, c .before .before .before .before .before .before .before .before .pre .1))
+
+add-out-7 : tie.Need-add-out-7
+add-out-7 c = search needs
+
+slice-write-out-8 : tie.Need-slice-write-out-8
+slice-write-out-8 c = simp length-set (omega (arith, c .before .before .before .before .before .before .before .before .pre .1))
+
+same-length : tie.Need-same-length
+same-length c = simp length-set
+
+returns : tie.Need-returns
+returns c = copied-eight (c .before .before .before .before .before .before .before .before .args .out .now) (c .before .before .before .before .before .before .before .before .args .from .now) (8 * c .before .before .before .before .before .before .before .before .args .j) (8 * c .before .before .before .before .before .before .before .before .args .i) (c .before .before .before .before .before .before .before .before .pre .1) (c .before .before .before .before .before .before .before .before .pre .0)
 
 pub copy-entry-spec : {M : Type 1} → statement M
 copy-entry-spec =
     tie.close
     (tie.spec
-    Inv-loop
-    μ-loop
     mul-s
     mul-t
-    loop-holds
-    add-out
-    shared-slice-read-out
-    add-out-2
-    slice-write-out
+    shared-slice-read-a
     add-b
-    loop-less
-    loop-again
+    shared-slice-read-b
+    add-c
+    shared-slice-read-c
+    add-d
+    shared-slice-read-d
+    add-e
+    shared-slice-read-e
+    add-f
+    shared-slice-read-f
+    add-g
+    shared-slice-read-g
+    add-h
+    shared-slice-read-h
+    slice-write-out
+    add-out
+    slice-write-out-2
+    add-out-2
+    slice-write-out-3
+    add-out-3
+    slice-write-out-4
+    add-out-4
+    slice-write-out-5
+    add-out-5
+    slice-write-out-6
+    add-out-6
+    slice-write-out-7
+    add-out-7
+    slice-write-out-8
     same-length
     returns)
