@@ -18,14 +18,14 @@ from model import MOST_BYTES, MOST_TABLES, NAMES, Refused, count  # noqa: E402
 
 def image(tables, body=lambda place: place):
     """The good image with these tables, each a family, a degree and an alphabet; the entry at a place of the image is body(place)."""
-    contents, bodies, end = len(tables).to_bytes(4, "little"), b"", 4 + 12 * len(tables)
+    contents, bodies, end = len(tables).to_bytes(4, "little"), [], 4 + 12 * len(tables)
     for family, k, n in tables:
         entries = count(NAMES[family], n, k)
         contents += bytes([family, k, n, 0]) + end.to_bytes(4, "little") + entries.to_bytes(4, "little")
         for _ in range(entries):
-            bodies += (body(end) % 2**64).to_bytes(8, "little")
+            bodies.append((body(end) % 2**64).to_bytes(8, "little"))
             end += 8
-    return contents + bodies
+    return contents + b"".join(bodies)
 
 
 # The smallest image, one table of a degree, one of each family, a surface over two quantities, one degree in both families, the widest alphabets.
@@ -150,9 +150,11 @@ def cut(r, b):
 
 def drawn(many, seed):
     r = random.Random(seed)
-    for _ in range(many):
-        tables = drawn_tables(r)
-        b = damaged(r, image(tables, lambda place: r.getrandbits(64)), 4 + 12 * len(tables)) if r.random() < 0.7 else image(tables)
+    for drawn_so_far in range(many):
+        if drawn_so_far % 8 == 0:  # eight requests about one image, which takes longer to draw than to damage
+            tables = drawn_tables(r)
+            plain, full = image(tables), image(tables, lambda place: r.getrandbits(64))
+        b = damaged(r, full, 4 + 12 * len(tables)) if r.random() < 0.7 else plain
         family, k = r.choice(tables)[:2] if tables and r.random() < 0.8 else (r.randrange(2), number(r))
         place = r.choice((0, 0, 0, 4, number(r)))
         i = r.choice((4 + 12 * len(tables), r.randrange(len(b) + 1)))
