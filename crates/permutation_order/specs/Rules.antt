@@ -1,6 +1,7 @@
 -- What each call answers, for all inputs: the checks of document 01 in their order, and then the value (01, "Permutations" and the lines of refusals).
 -- Assumes nothing.
 --   longestNumbered    the greatest length whose permutations are numbered: the ranks of one entry more do not fit a machine word
+--   held e n    the record of the entries e and the length n
 --   unnumbered n    a length above it: 1
 --   numbered p    the permutation that a record holds, if it is not too long to be numbered
 --   Ordered p    the record holds a permutation that is not too long to be numbered
@@ -20,6 +21,9 @@ use Rattle.permutation.specs.Rules.{takenArrangement}
 
 abbrev pub longestNumbered : ℕ
 longestNumbered = 20
+
+abbrev pub held : List ℕ → ℕ → Permutation
+held e n = record { entries = e; len = n }
 
 abbrev pub unnumbered : ℕ → Bool
 unnumbered n = ltb longestNumbered n

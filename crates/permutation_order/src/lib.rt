@@ -1,13 +1,14 @@
 // The colex order of the permutations of up to twenty entries: rank, unrank and successor (document 01, "Permutations"; document 02, section 7; Knuth 7.2.1.2).
 // A record may hold longer ones, which are not numbered.
 ghost use mathlib.Core.Path.{_≡_};
-ghost use Prim.Native.Nat.{_%_, _≤_, _<_};
+ghost use Prim.Native.Nat.{_+_, _%_, _≤_, _<_};
+ghost use lib.ListN.{length};
 ghost use Rattle.words.specs.Factorial.{factorial as factorialOf};
 ghost use Rattle.answers.specs.Says.{answerSays};
 ghost use Rattle.arrangements.specs.Rank.{arrangementRank, raise, lastly, arrangementUnrank};
 ghost use Rattle.arrangements.specs.Step.{FirstFall, FirstGreater, turn, exchange, step};
-ghost use Rattle.permutation.specs.Record.{arrangementOf, recordOf, GoodRecord, verdictSays, Arranges};
-ghost use Rattle.permutation_order.specs.Rules.{longestNumbered, numbered as numberedOf, arrangementRankSays, arrangementUnrankSays, arrangementSuccessorSays};
+ghost use Rattle.permutation.specs.Record.{capacity, arrangementOf, recordOf, GoodRecord, verdictSays, Arranges};
+ghost use Rattle.permutation_order.specs.Rules.{longestNumbered, held, numbered as numberedOf, arrangementRankSays, arrangementUnrankSays, arrangementSuccessorSays};
 use answers::Answer;
 use answers::Refusal;
 use permutation::Arranged;
@@ -70,24 +71,18 @@ fn raised(d: u64, x: u64) -> u64
     x + 1
 }
 
-// The permutation of one entry more whose last entry is d: the others from d up are raised by one to make room for it.
-fn with_last(p: Permutation, d: u64) -> Permutation
-    requires { ⌜ GoodRecord p × (p .len < longestNumbered) ⌝ }
-    ensures { λ r. ⌜ r ≡ recordOf (lastly d (arrangementOf p)) ⌝ }
+// The first n entries, those of a permutation, become those of the one of an entry more whose last is d: from d up they are raised by one to make room for it.
+fn make_room(entries: &mut [u64; CAPACITY], n: u64, d: u64)
+    requires { ⌜ GoodRecord (held (now entries) n) × (length (now entries) ≡ capacity) × (n < longestNumbered) ⌝ }
+    ensures { λ r. ⌜ held (now (entries .exit)) (n + 1) ≡ recordOf (lastly d (arrangementOf (held (now (entries .entry)) n))) ⌝ }
 {
-    let n = p.len;
-    let mut out = [0u64; CAPACITY];
     let mut i = 0u64;
     while i < n {
-        let x = p.entries[i as usize];
-        out[i as usize] = raised(d, x);
+        let x = entries[i as usize];
+        entries[i as usize] = raised(d, x);
         i += 1;
     }
-    out[n as usize] = d;
-    Permutation {
-        entries: out,
-        len: n + 1,
-    }
+    entries[n as usize] = d;
 }
 
 // The permutation of n entries of rank r, from the digits of r in the factorial number system, the lowest first.
@@ -95,19 +90,16 @@ fn unranked(n: u64, r: u64) -> Permutation
     requires { ⌜ n ≤ longestNumbered ⌝ }
     ensures { λ p. ⌜ p ≡ recordOf (arrangementUnrank n (r % factorialOf n)) ⌝ }
 {
-    let mut p = Permutation {
-        entries: [0u64; CAPACITY],
-        len: 0,
-    };
+    let mut entries = [0u64; CAPACITY];
     let mut rest = r;
     let mut j = 0u64;
     while j < n {
         let k = j + 1;
-        p = with_last(p, rest % k);
+        make_room(&mut entries, j, rest % k);
         rest = rest / k;
         j = k;
     }
-    p
+    Permutation { entries, len: n }
 }
 
 // The permutation of n entries of rank r: 1 for n, 3 if there are not so many.
