@@ -1,6 +1,5 @@
 -- Demand 3 for wide terms, walks apart: an old calculator that knows n symbols meets a table made over m of them, n at most m. For either family, a degree up to 128,
 -- m's shifted alphabet at most 128 and its count below 2^64 (02, §9), any rank r and room for the word. Assumes nothing.
---   wider, no-more    a smaller alphabet has a smaller shifted alphabet, and no more words
 --   fewer-symbols-answer-exactly-when-the-word-is-below    unranking r over n succeeds exactly when unranking over m gives a word with every symbol below n
 --   both-alphabets-give-one-word    and the words are then equal
 --   where-only-more-symbols-answer-fewer-say-no-such-rank    where only m succeeds, n answers 3
@@ -9,13 +8,11 @@
 use mathlib.Core.Path.{_≡_, sym, subst, _∙_}
 use mathlib.Core.Logic.{_↔_}
 use mathlib.Core.List.{List}
-use Prim.Native.Nat.{ℕ, zero, suc, _^_, _≤_, _<_}
+use Prim.Native.Nat.{ℕ, _^_, _≤_, _<_}
 use native.Mathlib.Nat.{le-trans, lt-of-lt-of-le, lt-of-not-le}
 use native.Mathlib.Decide.{decLe}
 use native.Mathlib.Omega.{arith}
-use Rattle.pascal.proofs.Choose.{choose-grows}
 use Rattle.words.specs.declared.Family.{Family}
-use Rattle.words.specs.declared.Family.the-variants.{Forbidden, Allowed}
 use Rattle.words.specs.Word.{Below, shiftedAlphabet, count}
 use Rattle.words.specs.Unrank.{unrankOf}
 use Rattle.words.proofs.Unrank.{below-n-exactly-when-rank-below-count}
@@ -23,22 +20,15 @@ use Rattle.answers.specs.Says.{refuses, gives}
 use Rattle.wide.specs.Rules.{wideUnrankSays, wideUnrankOverSays}
 use Rattle.wide.proofs.Counting.{wide-count-gives}
 use Rattle.wide.proofs.Unranking.{unranked, none-such}
+use Rattle.promises.proofs.Alphabets.{narrower, fewer}
 use Rattle.wide_promises.proofs.Terms.{WideUnranked, wide-unrank-given, wide-unrank-answers, wide-unrank-none}
-
-pub wider : (F : Family) (n m k : ℕ) → n ≤ m → shiftedAlphabet F n k ≤ shiftedAlphabet F m k
-wider Forbidden n m k h = h
-wider Allowed n m zero h = h
-wider Allowed n m (suc k) h = omega arith
-
-pub no-more : (F : Family) (n m k : ℕ) → n ≤ m → count F n k ≤ count F m k
-no-more F n m k h = choose-grows k (wider F n m k h)
 
 module _ (F : Family) (n m k : ℕ) (degree : k ≤ 128) (smaller : n ≤ m) (width : shiftedAlphabet F m k ≤ 128) (held : count F m k < 2 ^ 64) where
   narrow-width : shiftedAlphabet F n k ≤ 128
-  narrow-width = le-trans (wider F n m k smaller) width
+  narrow-width = le-trans (narrower F n m k smaller) width
 
   narrow-held : count F n k < 2 ^ 64
-  narrow-held = omega (arith, no-more F n m k smaller)
+  narrow-held = omega (arith, fewer F n m k smaller)
 
   module _ (r room : ℕ) (fits : k ≤ room) where
     pub fewer-symbols-answer-exactly-when-the-word-is-below :
@@ -50,7 +40,7 @@ module _ (F : Family) (n m k : ℕ) (degree : k ≤ 128) (smaller : n ≤ m) (wi
           where
             on : WideUnranked F n k r (t .0) → (w : List ℕ) × (wideUnrankSays F m k r room ≡ gives w) × Below n w
             on u =
-                let b : r < count F m k = lt-of-lt-of-le (u .below) (no-more F n m k smaller) in
+                let b : r < count F m k = lt-of-lt-of-le (u .below) (fewer F n m k smaller) in
                 (unrankOf F k r, wide-unrank-answers F m k r room degree width held b fits, below-n-exactly-when-rank-below-count F n m k r b .1 (u .below))
 
         back : (w : List ℕ) × (wideUnrankSays F m k r room ≡ gives w) × Below n w → (w : List ℕ) × (wideUnrankSays F n k r room ≡ gives w)
@@ -78,7 +68,7 @@ module _ (F : Family) (n m k : ℕ) (degree : k ≤ 128) (smaller : n ≤ m) (wi
   pub both-alphabets-give-one-index : (r : ℕ) → r < count F n k → wideUnrankOverSays F n k r ≡ wideUnrankOverSays F m k r
   both-alphabets-give-one-index r l =
       unranked F n k (count F n k) r (wide-count-gives F n k degree narrow-width narrow-held) l
-      ∙ sym (unranked F m k (count F m k) r (wide-count-gives F m k degree width held) (lt-of-lt-of-le l (no-more F n m k smaller)))
+      ∙ sym (unranked F m k (count F m k) r (wide-count-gives F m k degree width held) (lt-of-lt-of-le l (fewer F n m k smaller)))
 
   pub no-index-over-fewer-symbols : (r : ℕ) → count F n k ≤ r → r < count F m k → (wideUnrankOverSays F n k r ≡ refuses 3) × (Below n (unrankOf F k r) → ⊥)
   no-index-over-fewer-symbols r l b = (
