@@ -7,10 +7,10 @@ use Rattle.terms_input.proofs.read_line.Statement.{statement}
 use Rattle.terms_input.proofs.read_line.Tie as tie
 
 abbrev Inv-loop : tie.InvT-loop
-Inv-loop buffer₀ n₀ buffer n = (n ≤ length buffer) × (length buffer ≡ length buffer₀)
+Inv-loop from buffer₀ n₀ buffer n = (n ≤ length buffer) × (length buffer ≡ length buffer₀)
 
 abbrev μ-loop : tie.MeasureT-loop
-μ-loop buffer₀ n₀ buffer n = length buffer - n
+μ-loop from buffer₀ n₀ buffer n = length buffer - n
 
 loop-holds : tie.Need-loop-holds Inv-loop μ-loop
 loop-holds c = search needs
