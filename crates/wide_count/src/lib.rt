@@ -33,7 +33,7 @@ pub fn count(family: Family, n: u64, k: u64) -> Answer
     if 128 < alphabet {
         return Answer::Refused(Refusal::TooWide);
     }
-    let c = wide_pascal::along(alphabet, k);
+    let c = wide_table::at(alphabet, k);
     if c == u64::MAX {
         return Answer::Refused(Refusal::TooBig);
     }

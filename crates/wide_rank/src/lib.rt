@@ -46,7 +46,7 @@ fn weighed(family: Family, word: &[u64]) -> Answer
     let mut i = 0;
     while i < word.len() {
         let s = word[i] + words::shift(family, i as u64);
-        let c = wide_pascal::along(s, (i + 1) as u64);
+        let c = wide_table::at(s, (i + 1) as u64);
         if c == u64::MAX {
             return Answer::Refused(Refusal::TooBig);
         }

@@ -20,7 +20,7 @@ fn weighed(low: u64, high: u64) -> Answer
     let mut sum = ranking::rank(low);
     let mut i = bits::count_ones(low);
     while left != 0 {
-        let c = wide_pascal::along(64 + bits::lowest(left), i + 1);
+        let c = wide_table::at(64 + bits::lowest(left), i + 1);
         if c == u64::MAX {
             return Answer::Refused(Refusal::TooBig);
         }

@@ -20,7 +20,7 @@ fn descended(n: u64, k: u64, r: u64) -> Halves
     let mut high: u64 = 0;
     while 64 < s {
         s -= 1;
-        let c = wide_pascal::along(s, i);
+        let c = wide_table::at(s, i);
         if c <= left {
             left -= c;
             high += 1u64 << (s - 64);
@@ -31,11 +31,16 @@ fn descended(n: u64, k: u64, r: u64) -> Halves
     Halves { low, high }
 }
 
-// The set of k numbers below n that has the rank r. A rank below the count over 64 has all its numbers in the low half, whatever n is.
+// The set of k numbers below n that has the rank r. Up to 64 numbers it is the narrow form, and a rank below the count over 64 has all its numbers in the low half,
+// whatever n is.
 pub fn word(n: u64, k: u64, r: u64) -> Halves
     requires { ⌜ (n ≤ 128) × (r < choose n k) × (choose n k < 2 ^ 64) ⌝ }
     ensures { λ a. ⌜ whole a ≡ bitsOf (unrankOf Forbidden k r) ⌝ }
 {
+    if n <= 64 {
+        let low = unranking::word(n, k, r);
+        return Halves { low, high: 0 };
+    }
     if r < count::at(64, k) {
         let low = unranking::word(64, k, r);
         return Halves { low, high: 0 };

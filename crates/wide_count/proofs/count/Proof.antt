@@ -30,20 +30,20 @@ returns-3 c =
     let a = c .before .before .before .before .args in
     sym (ap (λ s. andThen s heldSays) (count-in-wide 128 (a .family) (a .n) (a .k) (omega arith) (omega arith)))
 
-along-requires : tie.Need-along-requires
-along-requires c κs = search needs
+at-requires : tie.Need-at-requires
+at-requires c κs = search needs
 
 returns-4 : tie.Need-returns-4
 returns-4 c =
     let a = c .before .before .before .before .before .before .args in
-    let big : 2 ^ 64 ≤ count (a .family) (a .n) (a .k) = omega (arith, told-big (c .before .before .before .shifted-alphabet .result) (a .k) _ (omega arith) (c .before .along .ensures) (c .if4 .taken), ap (λ (s : ℕ). choose s (a .k)) (c .before .before .before .shifted-alphabet .ensures)) in
+    let big : 2 ^ 64 ≤ count (a .family) (a .n) (a .k) = omega (arith, told-big (c .before .before .before .shifted-alphabet .result) (a .k) _ (omega arith) (c .before .at .ensures) (c .if4 .taken), ap (λ (s : ℕ). choose s (a .k)) (c .before .before .before .shifted-alphabet .ensures)) in
     sym (ap (λ s. andThen s heldSays) (count-in-gives 128 (a .family) (a .n) (a .k) (omega arith) (omega arith)) ∙ held-refuses (count (a .family) (a .n) (a .k)) big)
 
 returns-5 : tie.Need-returns-5
 returns-5 c =
     let a = c .before .before .before .before .before .before .args in
-    let e : c .before .along .result ≡ count (a .family) (a .n) (a .k) = told-held (c .before .before .before .shifted-alphabet .result) (a .k) _ (c .before .along .ensures) (c .if4 .left) ∙ ap (λ (s : ℕ). choose s (a .k)) (c .before .before .before .shifted-alphabet .ensures) in
-    let l : c .before .along .result < 2 ^ 64 = search needs in
+    let e : c .before .at .result ≡ count (a .family) (a .n) (a .k) = told-held (c .before .before .before .shifted-alphabet .result) (a .k) _ (c .before .at .ensures) (c .if4 .left) ∙ ap (λ (s : ℕ). choose s (a .k)) (c .before .before .before .shifted-alphabet .ensures) in
+    let l : c .before .at .result < 2 ^ 64 = search needs in
     ap gives e ∙ sym (ap (λ s. andThen s heldSays) (count-in-gives 128 (a .family) (a .n) (a .k) (omega arith) (omega arith)) ∙ held-gives (count (a .family) (a .n) (a .k)) (omega arith))
 
 pub count-spec : {M : Type 1} → statement M
@@ -54,6 +54,6 @@ count-spec =
     returns-2
     shifted-alphabet-requires
     returns-3
-    along-requires
+    at-requires
     returns-4
     returns-5)

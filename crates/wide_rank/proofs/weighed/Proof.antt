@@ -36,8 +36,8 @@ turn c =
       ap (λ (s : ℕ). choose (getD (c .before .before .before .before .before .args .word .now) (c .before .before .before .loop .i) 0 + s) (c .before .before .before .loop .i + 1)) (c .shift .ensures),
     )
 
-weight : (c : tie.Else1 Inv-loop μ-loop) → c .before .along .result ≡ choose (getD (c .before .before .before .before .before .before .before .args .word .now) (c .before .before .before .before .before .loop .i) 0 + c .before .before .shift .result) (c .before .before .before .before .before .loop .i + 1)
-weight c = told-held _ _ _ (c .before .along .ensures) (c .if1 .left)
+weight : (c : tie.Else1 Inv-loop μ-loop) → c .before .at .result ≡ choose (getD (c .before .before .before .before .before .before .before .args .word .now) (c .before .before .before .before .before .loop .i) 0 + c .before .before .shift .result) (c .before .before .before .before .before .loop .i + 1)
+weight c = told-held _ _ _ (c .before .at .ensures) (c .if1 .left)
 
 loop-holds : tie.Need-loop-holds Inv-loop μ-loop
 loop-holds c = (omega arith, omega arith, omega arith)
@@ -54,15 +54,15 @@ shift-requires c κs = search needs
 add-s : tie.Need-add-s Inv-loop μ-loop
 add-s c = omega (arith, within c)
 
-add-along : tie.Need-add-along Inv-loop μ-loop
-add-along c = omega arith
+add-at : tie.Need-add-at Inv-loop μ-loop
+add-at c = omega arith
 
-along-requires : tie.Need-along-requires Inv-loop μ-loop
-along-requires c κs = omega (arith, within c)
+at-requires : tie.Need-at-requires Inv-loop μ-loop
+at-requires c κs = omega (arith, within c)
 
 returns : tie.Need-returns Inv-loop μ-loop
 returns c =
-    let big : 2 ^ 64 ≤ rankOf (c .before .before .before .before .before .before .before .args .family) (c .before .before .before .before .before .before .before .args .word .now) = omega (arith, turn (c .before .before), told-big (getD (c .before .before .before .before .before .before .before .args .word .now) (c .before .before .before .before .before .loop .i) 0 + c .before .before .shift .result) (c .before .before .before .before .before .loop .i + 1) _ (omega (arith, within (c .before .before))) (c .before .along .ensures) (c .if1 .taken)) in
+    let big : 2 ^ 64 ≤ rankOf (c .before .before .before .before .before .before .before .args .family) (c .before .before .before .before .before .before .before .args .word .now) = omega (arith, turn (c .before .before), told-big (getD (c .before .before .before .before .before .before .before .args .word .now) (c .before .before .before .before .before .loop .i) 0 + c .before .before .shift .result) (c .before .before .before .before .before .loop .i + 1) _ (omega (arith, within (c .before .before))) (c .before .at .ensures) (c .if1 .taken)) in
     sym (held-refuses _ big)
 
 sub-if2 : tie.Need-sub-if2 Inv-loop μ-loop
@@ -101,8 +101,8 @@ weighed-spec =
     shared-slice-read-s
     shift-requires
     add-s
-    add-along
-    along-requires
+    add-at
+    at-requires
     returns
     sub-if2
     returns-2

@@ -32,9 +32,9 @@ next : (c : tie.After-lowest Inv-loop μ-loop)
 next c = turn _ _ _ _ _ _ (c .before .before .loop .inv .0) (c .before .loop-test .taken) (c .lowest .ensures)
 
 -- its weight, if 64 digits hold it
-weight : (c : tie.Else1 Inv-loop μ-loop) → c .before .along .result ≡ choose (c .before .before .lowest .result + 64) (c .before .before .before .before .loop .i + 1)
+weight : (c : tie.Else1 Inv-loop μ-loop) → c .before .at .result ≡ choose (c .before .before .lowest .result + 64) (c .before .before .before .before .loop .i + 1)
 weight c =
-    told-held _ _ _ (c .before .along .ensures) (c .if1 .left)
+    told-held _ _ _ (c .before .at .ensures) (c .if1 .left)
     ∙ ap (λ (n : ℕ). choose n (c .before .before .before .before .loop .i + 1)) (add-comm 64 (c .before .before .lowest .result))
 
 rank-requires : tie.Need-rank-requires Inv-loop μ-loop
@@ -49,19 +49,19 @@ loop-holds c = (weighing-starts 64 _ _ _ _ (search needs) (search needs) (c .bef
 lowest-requires : tie.Need-lowest-requires Inv-loop μ-loop
 lowest-requires c κs = search needs
 
-add-along : tie.Need-add-along Inv-loop μ-loop
-add-along c = omega (arith, next c .low)
+add-at : tie.Need-add-at Inv-loop μ-loop
+add-at c = omega (arith, next c .low)
 
-add-along-2 : tie.Need-add-along-2 Inv-loop μ-loop
-add-along-2 c = omega (arith, c .before .before .loop .inv .0 .few, next c .some)
+add-at-2 : tie.Need-add-at-2 Inv-loop μ-loop
+add-at-2 c = omega (arith, c .before .before .loop .inv .0 .few, next c .some)
 
-along-requires : tie.Need-along-requires Inv-loop μ-loop
-along-requires c κs = omega (arith, next c .low)
+at-requires : tie.Need-at-requires Inv-loop μ-loop
+at-requires c κs = omega (arith, next c .low)
 
 returns : tie.Need-returns Inv-loop μ-loop
 returns c =
     let l : choose (c .before .before .lowest .result + 64) (c .before .before .before .before .loop .i + 1) ≡ choose (64 + c .before .before .lowest .result) (c .before .before .before .before .loop .i + 1) = ap (λ (n : ℕ). choose n (c .before .before .before .before .loop .i + 1)) (add-comm (c .before .before .lowest .result) 64) in
-    let big : 2 ^ 64 ≤ total (c .before .before .before .before .before .before .before .args .low) (c .before .before .before .before .before .before .before .args .high) = omega (arith, next (c .before .before) .whole, l, told-big (64 + c .before .before .lowest .result) (c .before .before .before .before .loop .i + 1) _ (omega (arith, next (c .before .before) .low)) (c .before .along .ensures) (c .if1 .taken)) in
+    let big : 2 ^ 64 ≤ total (c .before .before .before .before .before .before .before .args .low) (c .before .before .before .before .before .before .before .args .high) = omega (arith, next (c .before .before) .whole, l, told-big (64 + c .before .before .lowest .result) (c .before .before .before .before .loop .i + 1) _ (omega (arith, next (c .before .before) .low)) (c .before .at .ensures) (c .if1 .taken)) in
     simp (le-leb _ _ big)
 
 sub-if2 : tie.Need-sub-if2 Inv-loop μ-loop
@@ -103,9 +103,9 @@ weighed-spec =
     count-ones-requires
     loop-holds
     lowest-requires
-    add-along
-    add-along-2
-    along-requires
+    add-at
+    add-at-2
+    at-requires
     returns
     sub-if2
     returns-2

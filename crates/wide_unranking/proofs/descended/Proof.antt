@@ -16,11 +16,11 @@ abbrev μ-loop : tie.MeasureT-loop
 μ-loop n k r s₀ i₀ left₀ high₀ s i left high = s
 
 -- the weight of the number tried
-weight : (c : tie.After-along Inv-loop μ-loop) → c .along .result ≡ choose (c .before .before .loop .s - 1) (c .before .before .loop .i)
-weight c = held-exactly _ _ _ (c .along .ensures) (next-held _ _ (omega arith) (c .before .before .loop .inv .held))
+weight : (c : tie.After-at Inv-loop μ-loop) → c .at .result ≡ choose (c .before .before .loop .s - 1) (c .before .before .loop .i)
+weight c = held-exactly _ _ _ (c .at .ensures) (next-held _ _ (omega arith) (c .before .before .loop .inv .held))
 
 -- where it is taken
-after : (c : tie.Then1 Inv-loop μ-loop) → Above 64 128 (c .before .before .before .before .args .k) (c .before .before .before .before .args .r) (c .before .before .before .loop .s - 1) (c .before .before .before .loop .i - 1) (c .before .before .before .loop .left - c .before .along .result) (c .before .before .before .loop .high + 1 * 2 ^ (c .before .before .before .loop .s - 1 - 64) % 2 ^ 64)
+after : (c : tie.Then1 Inv-loop μ-loop) → Above 64 128 (c .before .before .before .before .args .k) (c .before .before .before .before .args .r) (c .before .before .before .loop .s - 1) (c .before .before .before .loop .i - 1) (c .before .before .before .loop .left - c .before .at .result) (c .before .before .before .loop .high + 1 * 2 ^ (c .before .before .before .loop .s - 1 - 64) % 2 ^ 64)
 after c =
     above-taken _ _ _ _ _ _ _ _ _ _ (omega arith) (has-place _ _ _ _ _ _ _ _ _ (c .before .before .before .loop .inv) (weight (c .before)) (c .if1 .taken)) (c .before .before .before .loop .inv) (weight (c .before)) (c .if1 .taken)
     (one-shl 64 _ (omega (arith, c .before .before .before .loop .inv .walk .low)))
@@ -31,8 +31,8 @@ loop-holds c = above-starts 64 128 _ _ _ (c .pre .0) (c .pre .1) (c .pre .2)
 sub-s : tie.Need-sub-s Inv-loop μ-loop
 sub-s c = omega arith
 
-along-requires : tie.Need-along-requires Inv-loop μ-loop
-along-requires c κs = omega (arith, c .before .loop .inv .walk .low)
+at-requires : tie.Need-at-requires Inv-loop μ-loop
+at-requires c κs = omega (arith, c .before .loop .inv .walk .low)
 
 sub-high : tie.Need-sub-high Inv-loop μ-loop
 sub-high c = omega arith
@@ -72,7 +72,7 @@ descended-spec =
     μ-loop
     loop-holds
     sub-s
-    along-requires
+    at-requires
     sub-high
     shl-high
     add-high
