@@ -16,6 +16,10 @@ fn reply_lent(verb: &[u8], kinds: &[u8], values: &[u64], lent: &mut [u64]) -> Re
     let Reply::Bad = r else {
         return r;
     };
+    let r = wide_verbs::reply(verb, kinds, values, lent);
+    let Reply::Bad = r else {
+        return r;
+    };
     lexical_verbs::reply(verb, kinds, values, lent)
 }
 
@@ -122,7 +126,7 @@ fn reply_signed(
     )
 }
 
-// The answer to a line whose verb stands from place `from` up to `end`. No call writes more than 64 places.
+// The answer to a line whose verb stands from place `from` up to `end`. No call writes more than 128 places.
 fn answer_at(
     line: &[u8],
     room: u64,
@@ -135,7 +139,7 @@ fn answer_at(
 ) -> usize
     requires { ⌜ (from ≤ end) × (end ≤ length (now line)) ⌝ }
 {
-    let mut places = [0u64; 80];
+    let mut places = [0u64; 140];
     let mut table = [0i64; 80];
     let mut entries = [0i64; 80];
     let r = reply_at(line, room, from, end, &mut places);

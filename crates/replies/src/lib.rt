@@ -13,6 +13,10 @@ use monotone_walk::Current;
 use monotone_walk::Stepped;
 use monotone_walk::Walk;
 use permutation::Signature;
+use wide::Wide;
+use wide::WideDeleted;
+use wide::WideIndexed;
+use wide::WideSigned;
 
 // What a request is answered with.
 pub enum Reply {
@@ -23,6 +27,9 @@ pub enum Reply {
     Sign(Signature),
     Signed(Signed),
     Deleted(Deleted),
+    Wide(WideIndexed),
+    WideSigned(WideSigned),
+    WideDeleted(WideDeleted),
     Step(Stepped),
     DigitWord(Worded),
     DigitDeleted(DigitDeleted),
@@ -126,6 +133,47 @@ fn deleted(out: &mut [u8], at: usize, a: Deleted) -> usize {
             text::put_byte(out, at, b'\n')
         }
         Deleted::Refused(e) => refusal(out, at, e),
+    }
+}
+
+// The two halves of a wide index, the low one first, to the end of the line.
+fn put_halves(out: &mut [u8], at: usize, x: Wide) -> usize {
+    let at = text::put_number(out, at, x.low);
+    let at = text::put_byte(out, at, b' ');
+    number(out, at, x.high)
+}
+
+// The same, or a refusal.
+fn wide(out: &mut [u8], at: usize, a: WideIndexed) -> usize {
+    match a {
+        WideIndexed::At(x) => put_halves(out, at, x),
+        WideIndexed::Refused(e) => refusal(out, at, e),
+    }
+}
+
+// A sign and the halves of a wide index, or a refusal.
+fn wide_signed(out: &mut [u8], at: usize, a: WideSigned) -> usize {
+    match a {
+        WideSigned::At(s, x) => {
+            let at = sign(out, at, s);
+            let at = text::put_byte(out, at, b' ');
+            put_halves(out, at, x)
+        }
+        WideSigned::Refused(e) => refusal(out, at, e),
+    }
+}
+
+// A sign, the deleted symbol and the halves of what is left, or a refusal.
+fn wide_deleted(out: &mut [u8], at: usize, a: WideDeleted) -> usize {
+    match a {
+        WideDeleted::At(s, symbol, x) => {
+            let at = sign(out, at, s);
+            let at = text::put_byte(out, at, b' ');
+            let at = text::put_number(out, at, symbol);
+            let at = text::put_byte(out, at, b' ');
+            put_halves(out, at, x)
+        }
+        WideDeleted::Refused(e) => refusal(out, at, e),
     }
 }
 
@@ -288,6 +336,9 @@ pub fn put(
         Reply::Sign(a) => signs(out, at, a),
         Reply::Signed(a) => signed(out, at, a),
         Reply::Deleted(a) => deleted(out, at, a),
+        Reply::Wide(a) => wide(out, at, a),
+        Reply::WideSigned(a) => wide_signed(out, at, a),
+        Reply::WideDeleted(a) => wide_deleted(out, at, a),
         Reply::Step(a) => step(out, at, a),
         Reply::DigitWord(a) => digit_word(out, at, a),
         Reply::DigitDeleted(a) => digit_deleted(out, at, a),
