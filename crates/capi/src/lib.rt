@@ -11,6 +11,7 @@
 //   images          check, row, lookup, lookup by a row, writing; the check of an image in pieces
 //   derivatives     the derivative of a surface
 //   lexicographic   rank, unrank and successor in lexicographic order, and the converter of old tables
+//   wide_terms      count, rank, unrank, the next term, merge and delete of wide indices
 //   version         the version of the library
 mod derivatives;
 mod digit_words;
@@ -23,3 +24,4 @@ mod shapes;
 mod signed;
 mod terms;
 mod version;
+mod wide_terms;
