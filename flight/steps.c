@@ -129,7 +129,7 @@ static uint64_t widest(unsigned f, unsigned k)
     return f && k > 0 ? 65 - k : 64;
 }
 
-static uint64_t word[80], other[80], out[80], a, b, c, d, e;
+static uint64_t word[140], other[80], out[140], a, b, c, d, e;
 static bool yes, sign;
 
 static void version(void)
@@ -570,6 +570,60 @@ static void masses(void)
     CALL_ON_FRAME(gudrenoss_mass(image, len, 1, 0.5, 1, 0.75, &x));
 }
 
+/* Bits of 128 places with k ones: at the bottom, at the top, spread out, around the middle, and random. */
+static void wide_pattern(unsigned k, unsigned kind, uint64_t half[2])
+{
+    half[0] = half[1] = 0;
+    for (unsigned i = 0, left = k; left > 0; i++) {
+        uint64_t s = kind == 0 ? i : kind == 1 ? 127 - i : kind == 2 ? i * 128 / k : kind == 3 ? (64 - k / 2 + i) % 128 : below(128);
+        left -= (half[s / 64] >> s % 64 & 1) == 0;
+        half[s / 64] |= (uint64_t)1 << s % 64;
+    }
+}
+
+static void wides(void)
+{
+    for (unsigned f = 0; f < 2; f++) {
+        for (unsigned k = 0; k <= 128; k++) {
+            for (unsigned kind = 0; kind < 5; kind++) {
+                uint64_t x[2], y[2], written = 0;
+                wide_pattern(k, kind, x);
+                for (unsigned s = 0; s < 128; s++) {
+                    if (x[s / 64] >> s % 64 & 1) {
+                        word[written] = f ? s - written : s;
+                        written++;
+                    }
+                }
+                about("gudrenoss_wide_rank", "allowed %u, the word of halves %lu, %lu", f, x[0], x[1]);
+                CALL(gudrenoss_wide_rank(f, word, written, &a));
+                about("gudrenoss_wide_rank_of", "allowed %u, halves %lu, %lu", f, x[0], x[1]);
+                CALL(gudrenoss_wide_rank_of(f, x[0], x[1], &a));
+                about("gudrenoss_wide_successor", "allowed %u, halves %lu, %lu", f, x[0], x[1]);
+                CALL(gudrenoss_wide_successor(f, x[0], x[1], &a, &b));
+                about("gudrenoss_wide_delete", "allowed %u, halves %lu, %lu, the last", f, x[0], x[1]);
+                CALL(gudrenoss_wide_delete(f, x[0], x[1], k == 0 ? 0 : k - 1, &sign, &a, &b, &c));
+                wide_pattern(f ? 128 - k : k, kind, y);
+                y[0] &= f ? GREATEST : ~x[0], y[1] &= f ? GREATEST : ~x[1];
+                about("gudrenoss_wide_merge", "allowed %u, halves %lu, %lu and %lu, %lu", f, x[0], x[1], y[0], y[1]);
+                CALL(gudrenoss_wide_merge(f, x[0], x[1], f, y[0], y[1], &sign, &a, &b));
+            }
+            uint64_t n = f && k > 0 ? 129 - k : 128, fewer = k < 16 || k > 112 ? n : k < 34 ? 67 - (f ? k - 1 : 0) : f ? 1 : k;
+            for (unsigned i = 0; i < 4; i++) {
+                uint64_t m = i < 2 ? n : fewer, r = 0;
+                about("gudrenoss_wide_count", "allowed %u, n %lu, k %u", f, m, k);
+                CALL(gudrenoss_wide_count(f, m, k, &r));
+                r = r == 0 ? 0 : i % 2 ? r - 1 : below(r);
+                about("gudrenoss_wide_unrank", "allowed %u, n %lu, k %u, r %lu", f, m, k, r);
+                CALL(gudrenoss_wide_unrank(f, m, k, r, out, 128, &a));
+                about("gudrenoss_wide_unrank_over", "allowed %u, n %lu, k %u, r %lu", f, m, k, r);
+                CALL(gudrenoss_wide_unrank_over(f, m, k, r, &a, &b));
+                about("gudrenoss_wide_unrank_any", "allowed %u, k %u, r %lu", f, k, r);
+                CALL(gudrenoss_wide_unrank_any(f, k, r, &a, &b));
+            }
+        }
+    }
+}
+
 static void all(void)
 {
     version();
@@ -585,6 +639,7 @@ static void all(void)
     derivatives();
     images();
     masses();
+    wides();
 }
 
 #ifdef MARKS
