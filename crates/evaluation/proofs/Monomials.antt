@@ -8,18 +8,16 @@
 use mathlib.Core.List.{List, [], _∷_, _++_, append-nil}
 use mathlib.Core.Path.{_≡_, refl, sym, _∙_, ap}
 use mathlib.Core.Logic.{⊎-elim}
-use Prim.Native.Nat.{ℕ, zero, suc, _+_, _-_, _*_, _≤_, _<_}
+use Prim.Native.Nat.{ℕ, zero, suc, _+_, _-_, _≤_, _<_}
 use native.Mathlib.Omega.{arith}
 use native.Mathlib.Nat.{eq-or-lt-of-le}
 use lib.ListN.{length, getD, set, length-set}
 use lib.Seq.{getD-set-same, getD-set-other}
-use lib.Ieee.{Float, nan, binary64, add, mul}
-use Rattle.image_rules.specs.Image.{degreeAt}
-use Rattle.image_reading.specs.Reading.{findRow}
+use lib.Ieee.{Float, nan, binary64, mul}
 use Rattle.image_reading.proofs.Looking.{none-found}
 use Rattle.surface.specs.Mass.{readingOf, timesEach, one, monomial, monomialAt, addTerms, addDegrees}
 use Rattle.surface.specs.Surface.{tableOf, tablesFrom, Surface}
-use Rattle.surface.proofs.TwoSymbols.{times, termOf, unrank-is-term}
+use Rattle.surface.proofs.TwoSymbols.{times, unrank-is-term}
 use Rattle.surface.proofs.Rows.{no-body, table-length}
 use Rattle.evaluation.specs.Rows.{highestDegree, fromRow, Scaled}
 use Rattle.evaluation.proofs.Turns.{none-above}

@@ -2,9 +2,9 @@
 --   one-term, no-term    what is left to add from rank j on is the term of rank j and what is left from the next; after the last rank nothing is
 --   highest-none, highest-more    the highest degree of no row, and of one row more
 --   none-above, highest-below    no row has a degree above the highest, which is below what every row's is below
-use mathlib.Core.List.{List, []}
+use mathlib.Core.List.{List}
 use mathlib.Core.Logic.{⊎-elim}
-use mathlib.Core.Path.{_≡_, refl, sym, _∙_, ap}
+use mathlib.Core.Path.{_≡_, refl, ap}
 use Prim.Native.Nat.{ℕ, zero, suc, _+_, _-_, _*_, _≤_, _<_, max}
 use native.Mathlib.Omega.{arith}
 use native.Mathlib.Nat.{eq-or-lt-of-le, le-max-left, le-max-right, max-le}

@@ -1,7 +1,7 @@
 -- What the calls on a mass say, case by case. Assumes nothing.
 --   judged-refused, judged-given    by what is finite
 --   sample-bad, sample-other, sample-judged    by the verdict on the image, and by its tables
-use mathlib.Core.Path.{_≡_, refl, sym, ap, _∙_}
+use mathlib.Core.Path.{_≡_, sym, ap, _∙_}
 use mathlib.Core.Bool.{Bool, true, false}
 use mathlib.Core.List.{List, [], _∷_, _++_}
 use Prim.Native.Nat.{ℕ}

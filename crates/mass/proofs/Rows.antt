@@ -1,7 +1,7 @@
 -- Looking for a table of another family or alphabet, from the last row up to the first. Assumes nothing.
 --   other-family, other-alphabet, own-row, no-row    one turn of the search, and its end
-use mathlib.Core.Path.{_≡_, refl, ap, _∙_}
-use mathlib.Core.Bool.{Bool, true, false}
+use mathlib.Core.Path.{_≡_, ap, _∙_}
+use mathlib.Core.Bool.{true, false}
 use mathlib.Core.List.{List}
 use Prim.Native.Nat.{ℕ, suc}
 use borrow.Author.Tests.{eq-eqb, ne-eqb}

@@ -5,13 +5,12 @@
 --   sampleSays l s    11, with its offset; 7 if a table has another family or alphabet; 14; the mass
 --   massSays l f p g t    13, then these
 --   joinedSays, massedSays    what each case of an answer means
-use mathlib.Core.Bool.{Bool, true, false, not}
+use mathlib.Core.Bool.{Bool, not}
 use mathlib.Core.List.{List, [], _∷_, _++_}
 use Prim.Native.Nat.{ℕ}
 use lib.Dec.{eqb}
 use lib.Ieee.{Float}
-use Rattle.words.specs.Pick.{pick}
-use Rattle.answers.specs.Says.{Says, refusesWith, refuses, gives, refusedIf, andThen, numberOf, carriedBy}
+use Rattle.answers.specs.Says.{Says, refusesWith, gives, refusedIf, andThen, numberOf, carriedBy}
 use Rattle.image_rules.specs.Image.{imageSays}
 use Rattle.surface.specs.Mass.{massOf}
 use Rattle.surface.specs.Surface.{surfaceOf, someOther, allFinite}

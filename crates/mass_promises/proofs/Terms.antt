@@ -5,7 +5,7 @@
 --   mass-of-terms, missing-degree-has-no-terms    the mass is the sum, from +0.0, over the list of the surface's terms by degree and rank, in which a missing degree has none
 use mathlib.Core.Path.{_≡_, refl, sym, ap, _∙_}
 use mathlib.Core.List.{List, [], _∷_, _++_, append-nil}
-use Prim.Native.Nat.{ℕ, zero, suc, _+_, _-_, _≤_}
+use Prim.Native.Nat.{ℕ, suc, _+_, _-_, _≤_}
 use native.Mathlib.Omega.{arith}
 use lib.Ieee.{Float, binary64, mul}
 use Rattle.words.specs.declared.Family.the-variants.{Allowed}
@@ -16,7 +16,7 @@ use Rattle.answers.specs.Says.{refuses}
 use Rattle.image_reading.specs.Reading.{rowSays}
 use Rattle.surface.specs.Mass.{monomial, monomialAt, addTerms, addDegrees, massOf, nought}
 use Rattle.surface.specs.Surface.{bodyOf, tableOf}
-use Rattle.surface.proofs.TwoSymbols.{times, termOf, term-is-a-word, term-has-its-rank, unrank-is-term}
+use Rattle.surface.proofs.TwoSymbols.{times, term-is-a-word, term-has-its-rank, unrank-is-term}
 use Rattle.evaluation.proofs.Monomials.{more-p, more-t}
 use Rattle.mass_promises.specs.Terms.{Term, ofTable, termsFrom, termsOf, addAll}
 

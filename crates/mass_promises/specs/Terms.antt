@@ -8,7 +8,7 @@ use Prim.Native.Nat.{ℕ, suc}
 use lib.Ieee.{Float, binary64, ofBits, add, mul}
 use Rattle.words.specs.declared.Family.the-variants.{Allowed}
 use Rattle.words.specs.Unrank.{unrankOf}
-use Rattle.surface.specs.Mass.{timesEach, monomial}
+use Rattle.surface.specs.Mass.{monomial}
 
 pub record Term : Type 0 where
   pub coefficient : ℕ

@@ -2,9 +2,9 @@
 --   add-left, add-right, mul-left    a sum is finite only if both its parts are, and a product only if its first factor is
 --   mass-covers-entries    where an entry is not finite the mass is not
 --   no-pressure, no-temperature, no-mass, a-mass    the tests of both readings and of the mass, one after the other, are `allFinite`
-use mathlib.Core.Bool.{Bool, true, false, not, _&&_, cond, Bool·beq}
+use mathlib.Core.Bool.{Bool, true, false, _&&_, cond, Bool·beq}
 use mathlib.Core.List.{List, [], _∷_}
-use mathlib.Core.Path.{_≡_, refl, sym, _∙_, ap}
+use mathlib.Core.Path.{_≡_, refl, sym, _∙_}
 use Prim.Native.Nat.{ℕ, suc}
 use native.Mathlib.Omega.{arith}
 use lib.Dec.{eqb}

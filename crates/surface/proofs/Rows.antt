@@ -6,7 +6,7 @@
 --   Body l k i, found-body    where row i has degree k: its body lies in the image, and is the table of that degree
 --   no-body    where no row has a degree, its table has no entries
 --   table-length    a table of degree k has no more than k + 1 entries
-use mathlib.Core.Path.{_≡_, refl, sym, ap, _∙_}
+use mathlib.Core.Path.{_≡_, refl, ap, _∙_}
 use mathlib.Core.Bool.{Bool, true, false, _&&_}
 use mathlib.Core.Logic.{⊎-elim}
 use mathlib.Core.List.{List, []}
@@ -18,7 +18,6 @@ use lib.Dec.{eqb}
 use lib.ListN.{length}
 use Rattle.pascal.specs.Choose.{choose}
 use Rattle.pascal.proofs.Choose.{choose-none, choose-all, pascal}
-use Rattle.words.specs.declared.Family.{Family}
 use Rattle.words.specs.declared.Family.the-variants.{Allowed}
 use Rattle.words.specs.Pick.{pick}
 use Rattle.words.specs.Word.{shiftedAlphabet, count}

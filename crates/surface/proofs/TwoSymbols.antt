@@ -4,8 +4,8 @@
 --   term-is-a-word, term-has-its-rank    it is an Allowed word of k symbols below 2, and its rank is j
 --   unrank-is-term    so unranking gives it
 use mathlib.Core.List.{List, [], _∷_, _++_}
-use mathlib.Core.Path.{_≡_, refl, sym, _∙_, ap}
-use Prim.Native.Nat.{ℕ, zero, suc, _+_, _-_, _≤_, _<_}
+use mathlib.Core.Path.{_≡_, refl, _∙_, ap}
+use Prim.Native.Nat.{ℕ, zero, suc, _+_, _-_, _≤_}
 use native.Mathlib.Omega.{arith}
 use lib.ListN.{length, length-append}
 use Rattle.words.specs.declared.Family.the-variants.{Allowed}

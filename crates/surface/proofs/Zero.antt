@@ -4,20 +4,20 @@
 --   add-kept    a sum whose first part is not -0.0 is not
 --   mass-holds, mass-no-minus-zero    a mass is an f64, and not -0.0
 --   no-minus-zero-bits    so its bits are not those of -0.0
-use mathlib.Core.Bool.{Bool, true, false, not, _&&_, cond, Bool·beq}
+use mathlib.Core.Bool.{Bool, true, false, _&&_, cond, Bool·beq}
 use mathlib.Core.List.{List, [], _∷_}
 use mathlib.Core.Path.{_≡_, refl, sym, ap, subst, _∙_}
 use Prim.Native.Nat.{ℕ, zero, suc, _+_, _-_, _*_, _/_, _%_, _^_, _≤_, _<_, _∣_, compare}
-use native.Mathlib.Nat.{zero-mul, mul-comm, mul-sub, mul-pos, mul-right-comm, one-mul, add-mul, le-div-iff-mul-le, div-div-eq-div-mul, one-dvd, dvd-zero, dvd-mul-right, dvd-mul-left-of-dvd, dvd-mul-right-of-dvd, dvd-add, dvd-sub, mul-dvd-mul-right, le-of-dvd, lt-of-not-le, not-le-of-lt, le-trans}
+use native.Mathlib.Nat.{zero-mul, mul-comm, mul-sub, mul-pos, mul-right-comm, one-mul, add-mul, le-div-iff-mul-le, div-div-eq-div-mul, one-dvd, dvd-zero, dvd-mul-right, dvd-mul-left-of-dvd, dvd-add, dvd-sub, mul-dvd-mul-right, le-of-dvd, lt-of-not-le, not-le-of-lt, le-trans}
 use native.Mathlib.Omega.{arith}
-use borrow.Author.Tests.{ltb-true, ltb-false}
+use borrow.Author.Tests.{ltb-true}
 use lib.IntN.{ℤ, pos, negsuc}
 use lib.Dec.{T, leb, ltb, eqb, leb→le}
 use lib.Pow.{pow-add, pow-pos, pow-lt}
 use lib.Count.{trailingZeros}
-use lib.Ieee.{Float, nan, inf, fin, Format, binary64, prec, emax, low, up, down, minus, size, nearest, odd, units, round, sum, add, mul, fits, ofBits, toBits, isNan}
+use lib.Ieee.{Float, nan, inf, fin, Format, binary64, prec, emax, low, up, down, minus, size, odd, units, round, sum, add, mul, fits, ofBits, toBits}
 use lib.Ieee.Digits.{Equals, odd-val, size-lt, size-reaches}
-use lib.Ieee.Fits.{two, up-pos, down-pos, core, round-is, and-l, and-r, add-fits, mul-fits}
+use lib.Ieee.Fits.{two, up-pos, down-pos, round-is, and-l, and-r, add-fits, mul-fits}
 use lib.Ieee.Nearest.{nearest-ge}
 use lib.Ieee.Bits.{ofBits-fits, ofBits-toBits}
 use Rattle.surface.specs.Mass.{monomialAt, addTerms, addDegrees, massOf, nought}

@@ -1,12 +1,10 @@
 -- `evaluation::add_degree` meets its contract. The invariant: what is left to add from rank j on gives what was asked for. Assumes nothing.
 use borrow.Author.Needs.{needs}
-use mathlib.Core.Path.{_≡_, refl, sym, _∙_, ap}
+use mathlib.Core.Path.{_≡_, sym, _∙_}
 use Prim.Native.Nat.{_+_, _-_, _*_, _≤_}
 use native.Mathlib.Omega.{arith}
 use native.Mathlib.Nat.{le-antisymm}
 use native.Mathlib.Numerals.{unary-clauses}
-use lib.ListN.{getD}
-use lib.Ieee.{nan, binary64, ofBits}
 use Rattle.surface.specs.Mass.{addTerms}
 use Rattle.surface.specs.Surface.{numbersAt}
 use Rattle.evaluation.specs.Rows.{fromRow}

@@ -1,12 +1,12 @@
 -- `evaluation::add_table` meets its contract, by whether a row has the degree. Assumes nothing.
-use mathlib.Core.Path.{_≡_, refl, sym, _∙_, ap}
+use mathlib.Core.Path.{sym, _∙_, ap}
 use mathlib.Core.List.{List}
-use Prim.Native.Nat.{ℕ, _+_, _*_}
+use Prim.Native.Nat.{ℕ, _+_}
 use native.Mathlib.Omega.{arith}
 use Rattle.answers.specs.Says.{answerSays}
 use Rattle.surface.specs.Mass.{addTerms}
 use Rattle.surface.specs.Surface.{numbersAt}
-use Rattle.surface.proofs.Rows.{Body, found-body, no-body, contents-lie}
+use Rattle.surface.proofs.Rows.{found-body, no-body, contents-lie}
 use Rattle.evaluation.specs.Rows.{fromRow}
 use Rattle.evaluation.proofs.Monomials.{no-table}
 use borrow.Author.Needs.{needs}

@@ -1,8 +1,7 @@
 -- `evaluation::evaluate` meets its contract. The invariant: what is left to add from degree k on gives the mass, and the row holds the monomials of degree k but that of pressures alone.
 -- Assumes nothing.
-use mathlib.Core.Path.{_≡_, refl, sym, _∙_, ap}
-use mathlib.Core.List.{[]}
-use Prim.Native.Nat.{_+_, _-_, _*_, _≤_, _<_}
+use mathlib.Core.Path.{_≡_, refl, sym, _∙_}
+use Prim.Native.Nat.{_+_, _-_, _≤_, _<_}
 use native.Mathlib.Omega.{arith}
 use lib.ListN.{length-set}
 use Rattle.surface.specs.Mass.{massOf, addDegrees, monomial, timesEach}

@@ -1,7 +1,7 @@
 -- `mass::judged` meets its contract: the tests of both readings and of the mass cover the entries. Assumes nothing.
 use borrow.Author.Needs.{needs}
 use borrow.Author.Tests.{not-true, not-false}
-use mathlib.Core.Path.{_≡_, refl, sym, _∙_, ap}
+use mathlib.Core.Path.{sym, _∙_, ap}
 use Rattle.rounded.specs.Finite.{finite}
 use Rattle.surface.specs.Surface.{surfaceOf}
 use Rattle.surface.proofs.Finite.{no-pressure, no-temperature, no-mass, a-mass}
