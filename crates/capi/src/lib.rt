@@ -9,6 +9,7 @@
 //   digit_words     count, from symbols, symbols, symbol, multiplicity, stabilizer, concatenation, deletion
 //   exponents       to a word, from a word, rank, from a rank, addition
 //   images          check, row, lookup, lookup by a row, writing; the check of an image in pieces
+//   masses          the sample of two readings, and the mass of one frame
 //   derivatives     the derivative of a surface
 //   lexicographic   rank, unrank and successor in lexicographic order, and the converter of old tables
 //   wide_terms      count, rank, unrank, the next term, merge and delete of wide indices
@@ -18,6 +19,7 @@ mod digit_words;
 mod exponents;
 mod images;
 mod lexicographic;
+mod masses;
 mod permutations;
 mod sets;
 mod shapes;
