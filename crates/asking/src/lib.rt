@@ -95,6 +95,10 @@ fn reply_bytes(
     let Reply::Bad = r else {
         return r;
     };
+    let r = mass_verbs::reply(&line[from..end], line, end + 1, bytes);
+    let Reply::Bad = r else {
+        return r;
+    };
     lexical_verbs::converted(
         &line[from..end],
         line,

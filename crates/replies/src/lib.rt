@@ -9,6 +9,8 @@ use answers::Signed;
 use deletion::Deleted;
 use digits::Deleted as DigitDeleted;
 use digits::Worded;
+use mass::Joined;
+use mass::Massed;
 use monotone_walk::Current;
 use monotone_walk::Stepped;
 use monotone_walk::Walk;
@@ -41,6 +43,8 @@ pub enum Reply {
     Entries(Answer),
     // an image in pieces of which nothing is told yet
     Open,
+    Sample(Joined),
+    Mass(Massed),
 }
 
 pub fn bad(out: &mut [u8], at: usize) -> usize {
@@ -50,12 +54,8 @@ pub fn bad(out: &mut [u8], at: usize) -> usize {
 // A refusal by its number, with its place where it carries one.
 fn refusal(out: &mut [u8], at: usize, e: Refusal) -> usize {
     let at = text::put(out, at, b"refused ");
-    if !answers::carries(e) {
-        return number(out, at, answers::number(e));
-    }
-    let at = text::put_number(out, at, answers::number(e));
-    let at = text::put(out, at, b" at ");
-    number(out, at, answers::place(e))
+    let at = number_and_place(out, at, e);
+    text::put_byte(out, at, b'\n')
 }
 
 fn number(out: &mut [u8], at: usize, n: u64) -> usize {
@@ -320,6 +320,50 @@ fn entries(out: &mut [u8], at: usize, a: Answer, lent: &[i64]) -> usize {
     }
 }
 
+// A refusal that names a frame.
+fn frame_refusal(out: &mut [u8], at: usize, e: Refusal, frame: u64) -> usize {
+    let at = text::put(out, at, b"refused ");
+    let at = number_and_place(out, at, e);
+    let at = text::put(out, at, b" frame ");
+    number(out, at, frame)
+}
+
+// The number of a refusal, with its place where it carries one.
+fn number_and_place(out: &mut [u8], at: usize, e: Refusal) -> usize {
+    let at = text::put_number(out, at, answers::number(e));
+    if !answers::carries(e) {
+        return at;
+    }
+    let at = text::put(out, at, b" at ");
+    text::put_number(out, at, answers::place(e))
+}
+
+// A frame and its two readings, or a refusal.
+fn sample(out: &mut [u8], at: usize, a: Joined) -> usize {
+    match a {
+        Joined::One(s) => {
+            let at = text::put_number(out, at, s.frame);
+            let at = text::put_byte(out, at, b' ');
+            let at = float_text::put(out, at, s.pressure);
+            let at = text::put_byte(out, at, b' ');
+            let at = float_text::put(out, at, s.temperature);
+            text::put_byte(out, at, b'\n')
+        }
+        Joined::Refused(e, frame) => frame_refusal(out, at, e, frame),
+    }
+}
+
+// A mass, or a refusal.
+fn mass(out: &mut [u8], at: usize, a: Massed) -> usize {
+    match a {
+        Massed::Is(x) => {
+            let at = float_text::put(out, at, x);
+            text::put_byte(out, at, b'\n')
+        }
+        Massed::Refused(e, frame) => frame_refusal(out, at, e, frame),
+    }
+}
+
 // Puts a reply. The places, the bytes and the signed numbers are those that calls write to.
 pub fn put(
     out: &mut [u8],
@@ -347,5 +391,7 @@ pub fn put(
         Reply::Bytes(a) => bytes(out, at, a, written),
         Reply::Entries(a) => entries(out, at, a, table),
         Reply::Open => text::put(out, at, b"open\n"),
+        Reply::Sample(a) => sample(out, at, a),
+        Reply::Mass(a) => mass(out, at, a),
     }
 }
