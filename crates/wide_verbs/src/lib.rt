@@ -2,11 +2,11 @@
 use replies::Reply;
 use wide::Wide;
 
-// The wide index at place i: its family, and its halves after that.
-fn index_at(kinds: &[u8], values: &[u64], i: usize) -> Wide {
-    let family = requests::family(kinds, i);
-    let low = requests::number(values, i + 1);
-    let high = requests::number(values, i + 2);
+// The wide index whose family and halves stand at these places.
+fn index_at(kinds: &[u8], values: &[u64], f: usize, l: usize, h: usize) -> Wide {
+    let family = requests::family(kinds, f);
+    let low = requests::number(values, l);
+    let high = requests::number(values, h);
     Wide { family, low, high }
 }
 
@@ -36,7 +36,7 @@ fn of_words(verb: &[u8], kinds: &[u8], values: &[u64], lent: &mut [u64]) -> Repl
 
 // The requests on indices; bad if the verb is another one.
 fn of_index(verb: &[u8], kinds: &[u8], values: &[u64]) -> Reply {
-    let x = index_at(kinds, values, 0);
+    let x = index_at(kinds, values, 0, 1, 2);
     if requests::asks(verb, kinds, b"widerankof Fnn") {
         return Reply::Number(wide_rank::rank_of(x));
     }
@@ -44,7 +44,7 @@ fn of_index(verb: &[u8], kinds: &[u8], values: &[u64]) -> Reply {
         return Reply::Wide(wide_successor::successor(x));
     }
     if requests::asks(verb, kinds, b"widemerge FnnFnn") {
-        return Reply::WideSigned(wide_algebra::merge(x, index_at(kinds, values, 3)));
+        return Reply::WideSigned(wide_algebra::merge(x, index_at(kinds, values, 3, 4, 5)));
     }
     if requests::asks(verb, kinds, b"widedelete Fnnn") {
         return Reply::WideDeleted(wide_deletion::delete(x, requests::number(values, 3)));
