@@ -10,7 +10,7 @@ joined-requires : tie.Need-joined-requires
 joined-requires c κs = search needs
 
 returns : tie.Need-returns
-returns c = simp (c .before .before .join .ensures) at (c .joined .ensures)
+returns c = simp (c .before .before .before .before .join .ensures) at (c .joined .ensures)
 
 pub gudrenoss-join-spec : {M : Type 1} → statement M
 gudrenoss-join-spec = tie.close (tie.spec join-requires joined-requires returns)
