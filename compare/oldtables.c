@@ -1,5 +1,5 @@
-/* The converter of old tables beside a plain loop that ranks each word: bodies of about a million entries, both directions, the least time of some rounds. Both have to
- * give the same bytes. */
+/* The converter of old tables beside a plain loop that ranks each word: bodies of about a million entries, both directions, the least time of some rounds in turns. Both
+ * have to give the same bytes. */
 #define _POSIX_C_SOURCE 199309L
 #include <gudrenoss.h>
 
@@ -8,7 +8,7 @@
 #include <string.h>
 #include <time.h>
 
-enum { rounds = 9 };
+enum { rounds = 25 };
 
 static uint64_t choose[65][65];
 
@@ -53,32 +53,20 @@ static double seconds(void)
     return (double)t.tv_sec + 1e-9 * (double)t.tv_nsec;
 }
 
-static double timed_plain(bool back, uint64_t a, uint64_t k, uint64_t count, const uint8_t *from, uint8_t *to)
+/* One round of each, in turns, so that what else the machine does falls on both; the least times so far. */
+static void timed_round(bool back, bool allowed, uint64_t n, uint64_t k, uint64_t a, uint64_t count, const uint8_t *from, uint8_t *to, uint8_t *other, double least[2])
 {
-    double least = 1e9;
-    for (int i = 0; i < rounds; i++) {
-        double start = seconds();
-        plain(back, a, k, count, from, to);
-        double time = seconds() - start;
-        least = time < least ? time : least;
-    }
-    return least;
-}
-
-static double timed_call(bool back, bool allowed, uint64_t n, uint64_t k, uint64_t count, const uint8_t *from, uint8_t *to)
-{
-    double least = 1e9;
-    for (int i = 0; i < rounds; i++) {
-        uint64_t written;
-        double start = seconds();
-        gudrenoss_refusal refusal = back ? gudrenoss_lex_from_colex(allowed, n, k, from, 8 * count, to, 8 * count, &written)
-                                         : gudrenoss_lex_to_colex(allowed, n, k, from, 8 * count, to, 8 * count, &written);
-        double time = seconds() - start;
-        if (refusal.number != GUDRENOSS_OK || written != 8 * count)
-            exit(1);
-        least = time < least ? time : least;
-    }
-    return least;
+    uint64_t written;
+    double start = seconds();
+    plain(back, a, k, count, from, to);
+    double between = seconds();
+    gudrenoss_refusal refusal = back ? gudrenoss_lex_from_colex(allowed, n, k, from, 8 * count, other, 8 * count, &written)
+                                     : gudrenoss_lex_to_colex(allowed, n, k, from, 8 * count, other, 8 * count, &written);
+    double end = seconds();
+    if (refusal.number != GUDRENOSS_OK || written != 8 * count || memcmp(to, other, 8 * count) != 0)
+        exit(1);
+    least[0] = between - start < least[0] ? between - start : least[0];
+    least[1] = end - between < least[1] ? end - between : least[1];
 }
 
 static void compare(bool allowed, uint64_t n, uint64_t k)
@@ -92,9 +80,10 @@ static void compare(bool allowed, uint64_t n, uint64_t k)
     for (uint64_t i = 0; i < count; i++)
         memcpy(from + 8 * i, &i, 8);
     for (int back = 0; back < 2; back++) {
-        double p = timed_plain(back, a, k, count, from, to), c = timed_call(back, allowed, n, k, count, from, other);
-        if (memcmp(to, other, 8 * count) != 0)
-            exit(1);
+        double least[2] = {1e9, 1e9};
+        for (int i = 0; i < rounds; i++)
+            timed_round(back, allowed, n, k, a, count, from, to, other, least);
+        double p = least[0], c = least[1];
         printf("%s %2llu %2llu %s  %9llu entries  %6.2f ns here  %6.2f ns plain  %.2f\n", allowed ? "allowed  " : "forbidden", (unsigned long long)n,
             (unsigned long long)k, back ? "to old" : "to new", (unsigned long long)count, 1e9 * c / (double)count, 1e9 * p / (double)count, c / p);
     }
