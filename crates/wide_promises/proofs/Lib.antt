@@ -2,3 +2,4 @@ pub mod Exactly
 pub mod Terms
 pub mod Alphabets
 pub mod Same
+pub mod Seam
