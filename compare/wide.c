@@ -129,22 +129,28 @@ struct group {
     uint64_t first, last;
 };
 
+/* The three calls on words of a group, beside the narrow ones; the greatest of the ratios. */
+static double beside_narrow(const struct group *g, bool allowed, uint64_t below)
+{
+    ask_terms(allowed, g->first, g->last, below);
+    double rank = race("rank", allowed, g->name, wide_rank, narrow_rank), next = race("successor", allowed, g->name, wide_next, narrow_next);
+    double unrank = race("unrank", allowed, g->name, wide_unrank, narrow_unrank), most = rank > next ? rank : next;
+    return unrank > most ? unrank : most;
+}
+
 int main(void)
 {
     const struct group groups[] = {{"1-12", 1, 12}, {"1", 1, 1}, {"2", 2, 2}, {"4", 4, 4}, {"6", 6, 6}, {"12", 12, 12}, {"32", 32, 32}, {"48", 48, 48}};
+    const uint64_t widths[] = {64, 16};
     double most = 0;
-    printf("shifted symbols below 64\n%-10s %-10s %-6s %9s %9s %6s\n", "call", "family", "degree", "wide, ns", "narrow", "ratio");
-    for (size_t g = 0; g < sizeof groups / sizeof *groups; g++)
-        for (int allowed = 0; allowed < 2; allowed++) {
-            ask_terms(allowed, groups[g].first, groups[g].last, 64);
-            double ratio[] = {
-                race("rank", allowed, groups[g].name, wide_rank, narrow_rank),
-                race("successor", allowed, groups[g].name, wide_next, narrow_next),
-                race("unrank", allowed, groups[g].name, wide_unrank, narrow_unrank),
-            };
-            for (size_t i = 0; i < 3; i++)
-                most = ratio[i] > most ? ratio[i] : most;
-        }
+    for (size_t w = 0; w < 2; w++) {
+        printf("shifted symbols below %u\n%-10s %-10s %-6s %9s %9s %6s\n", (unsigned)widths[w], "call", "family", "degree", "wide, ns", "narrow", "ratio");
+        for (size_t g = 0; g < sizeof groups / sizeof *groups; g++)
+            for (int allowed = 0; allowed < 2 && groups[g].last < widths[w]; allowed++) {
+                double ratio = beside_narrow(&groups[g], allowed, widths[w]);
+                most = ratio > most ? ratio : most;
+            }
+    }
     printf("the greatest ratio: %.2f\n\nshifted symbols below 128\n%-10s %-10s %-6s %9s\n", most, "call", "family", "degree", "wide, ns");
     for (size_t g = 0; g < 6; g++)
         for (int allowed = 0; allowed < 2; allowed++) {

@@ -3,15 +3,21 @@
 // The original has one table of binomials for all widths, 64 bits an entry, which stops at 2^64 - 1; so it is asked about ranks below 2^64 alone.
 //
 //   sample     fifty thousand sets of so many numbers below 128, from a fixed seed
-//   run        one call raced over a list of inputs (race.rs)
-
-mod race;
+//   run        one call over a list of inputs: the least time of each side over a number of rounds, in turns, and their ratio; both have to say the same
 
 use multiindex::{CombinationOver, MonoIndexOver, Repetition};
-use race::{Random, Status};
 use std::hint::black_box;
+use std::time::{Duration, Instant};
 
 const SIZE: usize = 50_000;
+const ROUNDS: usize = 15;
+
+// A refusal's number, 0 for an answer, and its place.
+#[repr(C)]
+struct Status {
+    number: u64,
+    at: u64,
+}
 
 const ANSWER: Status = Status { number: 0, at: 0 };
 const LAST: Status = Status { number: 4, at: 0 };
@@ -57,15 +63,18 @@ extern "C" fn their_unrank(_: bool, k: u64, r: u64, low: &mut u64, high: &mut u6
 // ---- the inputs
 
 fn sample(degrees: &[u64]) -> Vec<(u128, u64)> {
-    let mut random = Random::new();
-    let of_degree = |k: u64, random: &mut Random| {
+    let mut state = 0x9E37_79B9_7F4A_7C15u64;
+    let mut of_degree = |k: u64| {
         let mut bits = 0u128;
         while bits.count_ones() < k as u32 {
-            bits |= 1 << (random.next() % 128);
+            state ^= state << 13;
+            state ^= state >> 7;
+            state ^= state << 17;
+            bits |= 1 << (state % 128);
         }
         bits
     };
-    (0..SIZE).map(|i| degrees[i % degrees.len()]).map(|k| (of_degree(k, &mut random), k)).collect()
+    (0..SIZE).map(|i| degrees[i % degrees.len()]).map(|k| (of_degree(k), k)).collect()
 }
 
 // ---- the race
@@ -76,6 +85,12 @@ fn said(call: &impl Fn(u64, u64, &mut u64, &mut u64) -> Status, (a, b): (u64, u6
     back.number.wrapping_add(back.at).wrapping_add(low).wrapping_add(high.wrapping_mul(7))
 }
 
+fn timed(inputs: &[(u64, u64)], call: &impl Fn(u64, u64, &mut u64, &mut u64) -> Status) -> (Duration, u64) {
+    let start = Instant::now();
+    let sum = inputs.iter().fold(0u64, |sum, &input| sum.wrapping_mul(31).wrapping_add(said(call, input)));
+    (start.elapsed(), sum)
+}
+
 fn run(
     name: &str,
     group: &str,
@@ -83,12 +98,20 @@ fn run(
     ours: impl Fn(u64, u64, &mut u64, &mut u64) -> Status,
     theirs: impl Fn(u64, u64, &mut u64, &mut u64) -> Status,
 ) {
-    let times = race::least(&format!("{name}, {group}"), inputs.len(), |i| said(&ours, inputs[i]), |i| said(&theirs, inputs[i]));
-    race::row(name, group, inputs.len(), times);
+    let (mut here, mut there) = (Duration::MAX, Duration::MAX);
+    for _ in 0..ROUNDS {
+        let (a, ours_said) = timed(inputs, &ours);
+        let (b, theirs_said) = timed(inputs, &theirs);
+        assert_eq!(ours_said, theirs_said, "the answers differ: {name}, {group}");
+        here = here.min(a);
+        there = there.min(b);
+    }
+    let each = |d: Duration| d.as_secs_f64() * 1e9 / inputs.len() as f64;
+    println!("{name:12} {group:>6} {:>10.1} {:>10.1} {:>8.2}", each(here), each(there), each(here) / each(there));
 }
 
 fn main() {
-    race::head("over 128", "degree");
+    println!("{:12} {:>6} {:>10} {:>10} {:>8}", "over 128", "degree", "here, ns", "Rust, ns", "ratio");
     let [rank_here, rank_there] = black_box([gudrenoss_wide_rank_of as Ranks, their_rank as Ranks]);
     let [next_here, next_there] = black_box([gudrenoss_wide_successor as Steps, their_successor as Steps]);
     let [unrank_here, unrank_there] = black_box([gudrenoss_wide_unrank_any as Steps, their_unrank as Steps]);
