@@ -215,6 +215,14 @@ GUDRENOSS_MUST_USE gudrenoss_refusal gudrenoss_rank(
  *   *rank: the rank */
 GUDRENOSS_MUST_USE gudrenoss_refusal gudrenoss_rank_of(bool allowed, uint64_t n, uint64_t bits, uint64_t *rank);
 
+/* The ranks of many indices of one family and one alphabet, each given by its bits: one call in place of one for each.
+ *   1, 7  the checks of the first index that does not pass them, with its position
+ *   8  ranks_room is below bits_len, with the first position that has no room
+ *   ranks: the ranks;  *written: bits_len. No rank is written unless all are
+ * Forbidden 4 with bits 10, 3 has ranks 4, 0. */
+GUDRENOSS_MUST_USE gudrenoss_refusal gudrenoss_rank_all(
+    bool allowed, uint64_t n, const uint64_t *bits, size_t bits_len, uint64_t *ranks, size_t ranks_room, uint64_t *written);
+
 /* The word of k symbols below n that has rank r.
  *   1  k > 64, or the shifted alphabet of n and k is above 64
  *   3  r is not below the count of n and k

@@ -156,6 +156,12 @@ static void looks_two(int line, gudrenoss_refusal back, uint64_t x, uint64_t y)
     looks_number(line, back, x);
 }
 
+/* A refusal that tells a position. */
+static void looks_refused_at(int line, gudrenoss_refusal back, uint64_t number, uint64_t at)
+{
+    look(line, back, number, at);
+}
+
 static void looks_flag(int line, gudrenoss_refusal back, bool flag)
 {
     before.flag = flag;
@@ -197,6 +203,7 @@ static void looks_entries(int line, gudrenoss_refusal back, const uint64_t *list
 
 #define refused(back, number) looks_refused(__LINE__, back, GUDRENOSS_##number)
 #define breaks(back, at) looks_broken(__LINE__, back, at)
+#define refused_at(back, number, at) looks_refused_at(__LINE__, back, GUDRENOSS_##number, at)
 #define number(back, x) looks_number(__LINE__, back, x)
 #define two(back, x, y) looks_two(__LINE__, back, x, y)
 #define flag(back, f) looks_flag(__LINE__, back, f)
@@ -354,6 +361,18 @@ static void test_unpack(void)
     refused(gudrenoss_unpack(allowed, 2, 25, OUT(0), X), OUTSIDE);
     refused(gudrenoss_unpack(allowed, 63, 25, OUT(0), X), TOO_WIDE);
     refused(gudrenoss_unpack(forbidden, top, 0, NULL, 0, X), TOO_WIDE);
+}
+
+static void test_rank_all(void)
+{
+    list(gudrenoss_rank_all(forbidden, 4, IN(10, 3), OUT(2), X), 4, 0);
+    list(gudrenoss_rank_all(allowed, 2, IN(6, 3, 0), OUT(64), X), 2, 0, 0);
+    nothing(gudrenoss_rank_all(forbidden, 64, EMPTY, OUT(0), X));
+    nothing(gudrenoss_rank_all(forbidden, 65, NULL, 0, NULL, 0, X));
+    refused_at(gudrenoss_rank_all(forbidden, 4, IN(10, 3, 16, 32), OUT(4), X), OUTSIDE, 2);
+    refused_at(gudrenoss_rank_all(allowed, 64, IN(1, 3), OUT(0), X), TOO_WIDE, 1);
+    refused_at(gudrenoss_rank_all(forbidden, 65, IN(0), OUT(1), X), TOO_WIDE, 0);
+    refused_at(gudrenoss_rank_all(forbidden, 4, IN(10, 3), OUT(1), X), SHAPE, 1);
 }
 
 static void test_index(void)
@@ -1150,6 +1169,7 @@ int main(void)
     test_pack();
     test_unpack();
     test_index();
+    test_rank_all();
     test_successor();
     test_rank();
     test_unrank();

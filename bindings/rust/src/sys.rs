@@ -226,6 +226,7 @@ with_slices! {
     fn gudrenoss_pack(allowed: bool, n: u64, [word], alphabet: &mut u64, bits: &mut u64);
     fn gudrenoss_unpack(allowed: bool, n: u64, bits: u64, {word}, written: &mut u64);
     fn gudrenoss_rank(allowed: bool, [word], rank: &mut u64);
+    fn gudrenoss_rank_all(allowed: bool, n: u64, [bits], {ranks}, written: &mut u64);
     fn gudrenoss_unrank(allowed: bool, n: u64, k: u64, r: u64, {word}, written: &mut u64);
     fn gudrenoss_canonicalise(allowed: bool, n: u64, [word], minus: &mut bool, alphabet: &mut u64, bits: &mut u64);
     fn gudrenoss_shape_count([radices], count: &mut u64);

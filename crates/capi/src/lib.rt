@@ -13,7 +13,9 @@
 //   derivatives     the derivative of a surface
 //   lexicographic   rank, unrank and successor in lexicographic order, and the converter of old tables
 //   wide_terms      count, rank, unrank, the next term, merge and delete of wide indices
+//   batches         the ranks of many indices
 //   version         the version of the library
+mod batches;
 mod derivatives;
 mod digit_words;
 mod exponents;
