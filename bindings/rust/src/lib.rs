@@ -61,7 +61,7 @@ pub use image::{Image, Pieces, Table, Tables};
 pub use mass::{join, FrameRefusal, Reading, Sample, Surface};
 pub use monotone::{MonoIndex, MonoIndices, Repetition};
 pub use permutation::Permutation;
-pub use refusal::Refusal;
+pub use refusal::{Refusal, RefusedAt};
 pub use sign::Sign;
 pub use symbols::Symbols;
 pub use wide::WideIndex;

@@ -1,4 +1,4 @@
-use crate::{sys, Refusal, Sign, Symbols};
+use crate::{sys, Refusal, RefusedAt, Sign, Symbols};
 use core::fmt;
 use core::iter::FusedIterator;
 
@@ -47,6 +47,28 @@ impl Repetition {
     /// [`TooWide`](Refusal::TooWide), [`NotMonotone`](Refusal::NotMonotone).
     pub fn rank(self, word: &[u64]) -> Result<u64, Refusal> {
         sys::number(|rank| sys::gudrenoss_rank(self.allowed(), word, rank))
+    }
+
+    /// The ranks of many indices over `nsymbols`, each given by its bits, written to `ranks`; none is written unless all are. The answer is
+    /// how many there are.
+    ///
+    /// # Errors
+    ///
+    /// That of the first index that is none, [`TooWide`](Refusal::TooWide) or [`Outside`](Refusal::Outside), with its position;
+    /// [`Shape`](Refusal::Shape) with the first position for which `ranks` has no place.
+    ///
+    /// ```
+    /// # use gudrenoss::{RefusedAt, Refusal, Repetition};
+    /// let mut ranks = [0; 2];
+    /// assert_eq!(Repetition::Forbidden.rank_all(4, &[10, 3], &mut ranks), Ok(2));
+    /// assert_eq!(ranks, [4, 0]);
+    /// let refused = RefusedAt { refusal: Refusal::Outside, position: 1 };
+    /// assert_eq!(Repetition::Forbidden.rank_all(4, &[10, 16], &mut ranks), Err(refused));
+    /// ```
+    pub fn rank_all(self, nsymbols: u64, bits: &[u64], ranks: &mut [u64]) -> Result<u64, RefusedAt> {
+        let mut written = 0;
+        let back = sys::gudrenoss_rank_all(self.allowed(), nsymbols, bits, ranks, &mut written);
+        RefusedAt::judge(back.number, back.at).map(|()| written)
     }
 
     /// The word of a rank.

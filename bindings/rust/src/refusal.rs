@@ -112,6 +112,26 @@ impl Refusal {
     }
 }
 
+/// A refusal of one of many, with its position among them.
+#[derive(Debug, Clone, Copy, PartialEq, Eq, Hash)]
+pub struct RefusedAt {
+    /// Why it is refused, as it would be alone.
+    pub refusal: Refusal,
+    /// Where it stands.
+    pub position: u64,
+}
+
+impl RefusedAt {
+    /// What the library gave back: number 0 is an answer.
+    pub(crate) fn judge(number: u64, position: u64) -> Result<(), RefusedAt> {
+        if number == 0 {
+            return Ok(());
+        }
+        let refusal = Refusal::from_parts(number, 0).expect("the library gives no other number");
+        Err(RefusedAt { refusal, position })
+    }
+}
+
 impl fmt::Display for Refusal {
     fn fmt(&self, f: &mut fmt::Formatter<'_>) -> fmt::Result {
         let reason = match self {
