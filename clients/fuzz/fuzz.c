@@ -394,6 +394,24 @@ static struct outcome call_rank_of(void)
     return (struct outcome){gudrenoss_rank_of(x.allowed, x.n, x.bits, &value[0].value), model_rank_of(x)};
 }
 
+/* Indices that are often good over the alphabet of one: its bits, and parts of them. */
+static struct outcome call_rank_all(void)
+{
+    struct index x = some_index();
+    fresh(room());
+    left.len = below(8) == 0 ? below(70) : below(7);
+    for (size_t i = 0; i < left.len; i++) {
+        uint64_t mask = any();
+        at(&left)[i] = below(16) == 0 ? any() : x.allowed && below(4) > 0 ? x.bits : x.bits & mask;
+    }
+    ready();
+    const uint64_t *given = pass(&left);
+    uint64_t *ranks = pass(&out);
+    return (struct outcome){
+        gudrenoss_rank_all(x.allowed, x.n, given, left.len, ranks, out.len, &value[0].value),
+        model_rank_all(x.allowed, x.n, at(&left), left.len, out.len)};
+}
+
 /* A rank that is often below the count. */
 static uint64_t some_rank(bool allowed, uint64_t n, uint64_t k)
 {
@@ -1444,7 +1462,7 @@ struct target {
 /* The functions, by name. None is called through a pointer, for which WebAssembly wants a table that not every engine has. */
 #define TARGETS \
     TARGET(version) \
-    TARGET(count) TARGET(pack) TARGET(unpack) TARGET(degree) TARGET(symbol) TARGET(rank) TARGET(rank_of) \
+    TARGET(count) TARGET(pack) TARGET(unpack) TARGET(degree) TARGET(symbol) TARGET(rank) TARGET(rank_of) TARGET(rank_all) \
     TARGET(unrank) TARGET(unrank_over) TARGET(unrank_any) TARGET(successor) TARGET(walk_start) TARGET(walk_step) \
     TARGET(canonicalise) TARGET(merge) TARGET(delete) TARGET(complement) TARGET(stabilizer) \
     TARGET(set_insert) TARGET(set_contains) TARGET(set_position) TARGET(set_select) \

@@ -37,6 +37,7 @@ struct answer model_degree(struct index x);
 struct answer model_symbol(struct index x, uint64_t p);
 struct answer model_rank(bool allowed, const uint64_t *word, size_t len);
 struct answer model_rank_of(struct index x);
+struct answer model_rank_all(bool allowed, uint64_t n, const uint64_t *bits, size_t len, size_t room);
 struct answer model_unrank(bool allowed, uint64_t n, uint64_t k, uint64_t r, size_t room);
 struct answer model_unrank_over(bool allowed, uint64_t n, uint64_t k, uint64_t r);
 struct answer model_unrank_any(bool allowed, uint64_t k, uint64_t r);
