@@ -70,6 +70,28 @@ fn reply_at(line: &[u8], room: u64, from: usize, end: usize, places: &mut [u64])
     }
 }
 
+// The answer by the group that knows the verb, of those with bytes among their words, which are read into a buffer; bad if none does. The words stand from
+// place `at` of the line; calls are lent `written`, and `asked` says whether that much was asked for.
+fn reply_written(
+    verb: &[u8],
+    line: &[u8],
+    at: usize,
+    bytes: &mut [u8],
+    written: &mut [u8],
+    places: &mut [u64],
+    asked: bool,
+) -> Reply {
+    let r = image_verbs::reply(verb, line, at, bytes, written, places);
+    let Reply::Bad = r else {
+        return r;
+    };
+    let r = mass_verbs::reply(verb, line, at, bytes);
+    let Reply::Bad = r else {
+        return r;
+    };
+    lexical_verbs::converted(verb, line, at, bytes, written, asked)
+}
+
 // The reply to a line with bytes, which are read into a buffer that holds those of every line. Calls are lent the first of `written`; a room was
 // asked for where the verb is not the first word.
 fn reply_bytes(
@@ -84,27 +106,13 @@ fn reply_bytes(
     requires { ⌜ (from ≤ end) × (end ≤ length (now line)) ⌝ }
 {
     let lent = lent_of(room, written.len());
-    let r = image_verbs::reply(
+    reply_written(
         &line[from..end],
         line,
         end + 1,
         bytes,
         &mut written[0..lent],
         places,
-    );
-    let Reply::Bad = r else {
-        return r;
-    };
-    let r = mass_verbs::reply(&line[from..end], line, end + 1, bytes);
-    let Reply::Bad = r else {
-        return r;
-    };
-    lexical_verbs::converted(
-        &line[from..end],
-        line,
-        end + 1,
-        bytes,
-        &mut written[0..lent],
         from > 0,
     )
 }
