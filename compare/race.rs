@@ -90,8 +90,21 @@ impl Race {
 
     pub fn run(
         &self,
+        names: [&str; 3],
+        calls: usize,
+        ours: impl FnMut(usize) -> u64,
+        theirs: impl FnMut(usize) -> u64,
+        inlined: impl FnMut(usize) -> u64,
+    ) {
+        self.run_slices(names, calls, 1, ours, theirs, inlined);
+    }
+
+    // The same for a call that takes so many inputs at once: it counts as so many calls.
+    pub fn run_slices(
+        &self,
         [call, family, inputs]: [&str; 3],
         calls: usize,
+        each: usize,
         mut ours: impl FnMut(usize) -> u64,
         mut theirs: impl FnMut(usize) -> u64,
         mut inlined: impl FnMut(usize) -> u64,
@@ -108,7 +121,7 @@ impl Race {
             benchmark_mark();
             black_box(once(calls, &mut inlined));
             benchmark_mark();
-            println!("{call}\t{family}\t{inputs}\t{calls}");
+            println!("{call}\t{family}\t{inputs}\t{}", calls * each);
             return;
         }
         let mut times = [vec![], vec![], vec![]];
@@ -122,6 +135,6 @@ impl Race {
             }
         }
         let row = |side: &Vec<u64>| side.iter().map(|t| t.to_string()).collect::<Vec<_>>().join(",");
-        println!("{call}\t{family}\t{inputs}\t{calls}\t{}\t{}\t{}", row(&times[0]), row(&times[1]), row(&times[2]));
+        println!("{call}\t{family}\t{inputs}\t{}\t{}\t{}\t{}", calls * each, row(&times[0]), row(&times[1]), row(&times[2]));
     }
 }

@@ -430,6 +430,51 @@ fn canonicalise(race: &Race, s: &Sample, inputs: &str) {
     race.run(["canonicalise", s.name, inputs], s.bits.len(), |i| said(here, i), |i| said(there, i), inlined);
 }
 
+// ---- ranks of many indices in one call, where the library has it
+
+#[cfg(batches)]
+mod slices {
+    use super::*;
+
+    const LEN: usize = 1_000;
+
+    unsafe extern "C" {
+        fn gudrenoss_rank_all(allowed: bool, n: u64, bits: *const u64, len: usize, ranks: *mut u64, room: usize, written: &mut u64) -> Status;
+    }
+
+    type Alls = unsafe extern "C" fn(bool, u64, *const u64, usize, *mut u64, usize, &mut u64) -> Status;
+
+    unsafe extern "C" fn their_rank_all(allowed: bool, _: u64, bits: *const u64, len: usize, ranks: *mut u64, room: usize, written: &mut u64) -> Status {
+        let (bits, ranks) = unsafe { (std::slice::from_raw_parts(bits, len), std::slice::from_raw_parts_mut(ranks, room)) };
+        ranks.iter_mut().zip(bits).for_each(|(rank, &b)| *rank = index(allowed, b).rank() as u64);
+        *written = len as u64;
+        ANSWER
+    }
+
+    // All over one alphabet: 64, or the widest that has room for 12 symbols.
+    pub fn run(race: &Race, allowed: bool) {
+        let mut random = Random::new(10);
+        let (name, n) = if allowed { ("Allowed", 53) } else { ("Forbidden", 64) };
+        let width = |k: u64| if allowed { n + k - 1 } else { n };
+        let bits: Vec<u64> = (0..race.size).map(|i| 1 + i as u64 % 12).map(|k| drawn_set(k, width(k), &mut random)).collect();
+        let values: Vec<MonoIndex> = bits.iter().map(|&b| index(allowed, b)).collect();
+        let all = |ranks: &[u64]| ANSWER.with(&[LEN as u64, ranks.iter().enumerate().fold(0, |said, (i, &r)| said ^ r.wrapping_add(i as u64))]);
+        let [here, there] = black_box([gudrenoss_rank_all as Alls, their_rank_all as Alls]);
+        let said = |call: Alls, i: usize, out: &mut [u64; LEN]| {
+            let mut written = 0;
+            let back = unsafe { call(allowed, n, bits[i * LEN..].as_ptr(), LEN, out.as_mut_ptr(), LEN, &mut written) };
+            assert!(back.number == 0 && written == LEN as u64, "a slice is refused");
+            all(out)
+        };
+        let (mut a, mut b, mut c) = ([0; LEN], [0; LEN], [0; LEN]);
+        let inlined = |i: usize| {
+            c.iter_mut().zip(&values[i * LEN..]).for_each(|(rank, x)| *rank = x.rank() as u64);
+            all(&c)
+        };
+        race.run_slices(["rank, a slice at once", name, "degrees 1-12"], race.size / LEN, LEN, |i| said(here, i, &mut a), |i| said(there, i, &mut b), inlined);
+    }
+}
+
 pub fn run(race: &Race) {
     assert!(laid_out(), "an index of the original does not lie in memory as it is said here");
     let mixed: Vec<u64> = (1..=12).collect();
@@ -449,6 +494,10 @@ pub fn run(race: &Race) {
             let s = Sample::new(race.size, allowed, &mixed, 64);
             let s = if *name == "canonicalise" { s.shuffled() } else { s };
             group(race, &s, "degrees 1-12");
+        }
+        #[cfg(batches)]
+        if race.wants("rank, a slice at once") {
+            slices::run(race, allowed);
         }
         if race.wants("merge") {
             merge(race, allowed);
