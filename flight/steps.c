@@ -550,6 +550,21 @@ static size_t make_surface(unsigned degrees, bool turned)
     return end;
 }
 
+/* The ranks of a list: lists of one kind of index, up to 64 of them. */
+static void batches(void)
+{
+    uint64_t many[64], ranks[64];
+    for (unsigned len = 0; len <= 64; len += 16) {
+        for (unsigned ones = 0; ones <= 64; ones += 16) {
+            for (unsigned i = 0; i < len; i++) {
+                many[i] = ones == 64 ? UINT64_MAX : ((uint64_t)1 << ones) - 1;
+            }
+            about("gudrenoss_rank_all", "%u sets of %u symbols", len, ones);
+            CALL(gudrenoss_rank_all(false, 64, many, len, ranks, 64, &a));
+        }
+    }
+}
+
 static void masses(void)
 {
     double x, y;
@@ -639,6 +654,7 @@ static void all(void)
     derivatives();
     images();
     masses();
+    batches();
     wides();
 }
 

@@ -56,7 +56,7 @@
  * POINTERS
  *
  * Memory is the caller's own: the library has no heap, no global state and no locks, keeps no pointer after it returns, and may
- * be called from several threads and from a signal handler. It uses at most 2,624 bytes of stack (docs/FLIGHT.md).
+ * be called from several threads and from a signal handler. It uses at most 3,472 bytes of stack (docs/FLIGHT.md).
  *
  * - A list that is read is a pointer and its length: const uint64_t *word, size_t word_len; of coefficients const int64_t *. At
  *   least that many places must be readable there, and they must not change during the call.
