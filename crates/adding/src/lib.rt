@@ -1,5 +1,7 @@
 // A walk over the Allowed words of one degree in rank order, and beside it the words with one symbol more (document 02, section 10): where the
 // coefficient of each of them stands in its table, and how often the symbol occurs in it. A step costs a few instructions, whatever the degree.
+#![tactic(auto)]
+
 ghost use Rattle.std.specs.Prelude.{◌≡◌, ◌+◌, ◌<◌, eqb};
 ghost use Rattle.words.specs.declared.Family.TheVariants.{Allowed};
 ghost use Rattle.words.specs.Pick.{pick};
@@ -7,7 +9,7 @@ ghost use Rattle.words.specs.Next.{first, next};
 ghost use Rattle.adding.specs.Places.{spelled, Placed, Movable};
 
 // Where a walk stands: the shifted symbols of its word as bits, the rank of the word with s added, and how often s occurs in that.
-#[derive(Drop)]
+#[derive(Clone, Copy)]
 pub struct Place {
     pub bits: u64,
     pub rank: u64,

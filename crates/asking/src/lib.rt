@@ -1,5 +1,7 @@
 // One request a line, one answer a line, until the end of the input (docs/RULES.md, section 13): a request is taken apart, a call of the
 // library answers it, and the answer is written. The programs over it are thin.
+#![tactic(auto)]
+
 ghost use Rattle.std.specs.Prelude.{◌≤◌, length};
 
 use replies::Reply;

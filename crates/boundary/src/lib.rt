@@ -1,5 +1,7 @@
 // How answers cross to a program in C (docs/RULES.md, "The C boundary"): the refusal comes back, its number 0 for an answer, and each result goes to a place of the
 // caller's, which is written only on an answer.
+#![tactic(auto)]
+
 ghost use Rattle.std.specs.Prelude.{◌≡◌};
 ghost use Rattle.answers.specs.Says.{number_of, carried_by, answer_says, indexed_says, signed_says};
 ghost use Rattle.monotone_walk.specs.Walks.{started_says, stepped_says};
@@ -17,7 +19,7 @@ use words::Family;
 
 // What comes back from every call: the number of a refusal, 0 for an answer, and the place that the refusal carries, 0 if it carries none.
 #[repr(C)]
-#[derive(Drop)]
+#[derive(Clone, Copy)]
 pub struct Status {
     pub number: u64,
     pub at: u64,

@@ -1,4 +1,6 @@
 // How the answers on a frame cross to a program in C (docs/RULES.md, "The C boundary"): as the others do, and the refusal that comes back names the frame.
+#![tactic(auto)]
+
 ghost use Rattle.std.specs.Prelude.{◌≡◌, [], ◌∷◌, ◌++◌};
 ghost use Rattle.answers.specs.Says.{number_of, carried_by};
 ghost use Rattle.boundary.specs.Boundary.{stored};
@@ -11,7 +13,7 @@ use mass::{Joined, Massed};
 // What comes back from a call on a frame: the number of a refusal, 0 for an answer, the place that it carries, 0 if it carries none, and the frame that it names, 0 for
 // an answer.
 #[repr(C)]
-#[derive(Drop)]
+#[derive(Clone, Copy)]
 pub struct FrameStatus {
     pub number: u64,
     pub at: u64,

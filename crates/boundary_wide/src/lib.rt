@@ -1,5 +1,7 @@
 // How wide indices cross to a program in C (docs/RULES.md, "The C boundary"): as two halves, the low one first. As in the crate boundary the refusal comes back, and each
 // result goes to a place of the caller's, which is written only on an answer.
+#![tactic(auto)]
+
 ghost use Rattle.std.specs.Prelude.{◌≡◌};
 ghost use Rattle.boundary.specs.Boundary.{status, stored};
 ghost use Rattle.wide.specs.Answers.{wide_indexed_says, wide_signed_says, wide_deleted_says};

@@ -15,6 +15,8 @@
 //   wide_terms      count, rank, unrank, the next term, merge and delete of wide indices
 //   batches         the ranks of many indices
 //   version         the version of the library
+#![tactic(auto)]
+
 mod batches;
 mod derivatives;
 mod digit_words;

@@ -1,5 +1,7 @@
 // Shapes (document 01, "Shapes, digit words, exponents", as 02, section 4, amends it): a shape is a lent list of at most 16 radices, axis 0 least significant. Counting, the
 // number of a digit tuple and the tuple of a number. Strides and corners are `cartesian_strides`'s.
+#![tactic(auto)]
+
 ghost use Rattle.std.specs.Prelude.{◌≡◌, false, ◌++◌, ◌+◌, ◌*◌, ◌^◌, ◌<◌, ◌≤◌, leb, length, drop};
 ghost use Rattle.positional.specs.Positional.{product as product_of, Digits, positional_value, digits_of};
 ghost use Rattle.answers.specs.Says.{answer_says, places_of, after};

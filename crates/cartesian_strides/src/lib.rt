@@ -1,5 +1,7 @@
 // The strides of a shape and the offset of a corner (document 01, "Shapes, digit words, exponents", as 02, section 4, amends it): a shape is a lent list of at most 16
 // radices, axis 0 least significant.
+#![tactic(auto)]
+
 ghost use Rattle.std.specs.Prelude.{◌≡◌, false, ◌++◌, ℕ, ◌+◌, ◌*◌, ◌-◌, ◌<◌, ◌≤◌, length, drop};
 ghost use Rattle.positional.specs.Positional.{strides as stridesOf};
 ghost use Rattle.answers.specs.Says.{answer_says, places_of, after};

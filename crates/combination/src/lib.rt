@@ -1,5 +1,7 @@
 // Sets of symbols (document 01, "Terms and their order"): a set is a bare 64-bit number, read as the bits of a Forbidden index.
 // The union of sets, deletion, complement, rank and unranking are the calls on such an index.
+#![tactic(auto)]
+
 ghost use Rattle.std.specs.Prelude.{◌≡◌};
 ghost use Rattle.words.specs.Bits.{set_bits};
 ghost use Rattle.answers.specs.Says.{answer_says};

@@ -1,4 +1,6 @@
 // The rank of a list of exponents and the exponents of a rank (document 01, "Shapes, digit words, exponents"): those of the Allowed word that they stand for.
+#![tactic(auto)]
+
 ghost use Rattle.std.specs.Prelude.{◌≡◌, length};
 ghost use Rattle.answers.specs.Says.{answer_says, places_of, after};
 ghost use Rattle.composition_rank.specs.Rules.{exponent_rank_says, from_rank_says};

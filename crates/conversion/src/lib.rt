@@ -1,5 +1,7 @@
 // The converter between tables in lexicographic order, the old one, and in colex order, the new one (document 02, section 11). An entry is eight bytes, whatever
 // they hold. Widening the alphabet renumbers terms in the old order.
+#![tactic(auto)]
+
 ghost use Rattle.std.specs.Prelude.{◌≡◌, ◌+◌, ◌*◌, ◌<◌, ◌≤◌, not, ◌++◌, length, take, drop, ◌==◌};
 ghost use Rattle.answers.specs.Says.{answer_says, places_of, after};
 ghost use Rattle.lexicographic.specs.Entries.{entry_at};

@@ -1,3 +1,5 @@
+#![tactic(auto)]
+
 // Runs the code's answers at the edges of its tables: each line is held to crates/count_cases/stdout.
 fn main() {
     line(count::binomial(64, 32));

@@ -1,4 +1,6 @@
 // The derivative of an Allowed table of signed coefficients by one of its symbols (document 02, section 10): a table of one degree less.
+#![tactic(auto)]
+
 ghost use Rattle.std.specs.Prelude.{◌≡◌, true, ◌++◌, ◌+◌, ◌≤◌, ◌<◌, pos, ◌*ℤ◌, length, drop, get_or};
 ghost use Rattle.words.specs.declared.Family.TheVariants.{Allowed};
 ghost use Rattle.words.specs.Word.{count as count_of};

@@ -1,4 +1,6 @@
 // The request for a derivative (docs/RULES.md, section 13), answered by the call of the library: derive n k s / c.., where c are signed numbers.
+#![tactic(auto)]
+
 use fields::Many;
 use replies::Reply;
 

@@ -3,6 +3,8 @@
 // comparison says whether they are below the next cut too, and then that cut's link takes over, for good. Otherwise the highest is one of the rows between
 // the two cuts, at most 16; each comparison halves these, with no branch, and what is left goes to the link for one number fewer.
 // Here are the links below 64; those of the lower cuts are in `descent_48`, `descent_32` and `descent_16`.
+#![tactic(auto)]
+
 ghost use Rattle.std.specs.Prelude.{◌≡◌, ◌+◌, ◌<◌, ◌≤◌};
 ghost use Rattle.pascal.specs.Row.{entry};
 ghost use Rattle.halving.specs.Search.{value, Sought};

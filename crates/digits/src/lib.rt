@@ -1,5 +1,7 @@
 // Digit words (document 01, "Shapes, digit words, exponents"): a radix, a degree of at most 64 and a rank, which is the word as a positional number, position 0
 // least significant. Their count, and their symbols. Multiplicities, concatenation and deletion are `digits_algebra`'s.
+#![tactic(auto)]
+
 ghost use Rattle.std.specs.Prelude.{◌≡◌, ◌%◌, ◌^◌, ◌<◌, ◌≤◌, length, replicate};
 ghost use Rattle.words.specs.Word.{Below};
 ghost use Rattle.answers.specs.Says.{answer_says, places_of, after, gives};
@@ -10,7 +12,7 @@ ghost use Rattle.digits.specs.Rules.{digit_count_says, check_says, symbols_says,
 use answers::{Answer, Refusal};
 
 // A digit word. Anyone may make one up; each call checks it.
-#[derive(Drop)]
+#[derive(Clone, Copy)]
 pub struct DigitWord {
     pub radix: u64,
     pub degree: u64,
@@ -18,14 +20,14 @@ pub struct DigitWord {
 }
 
 // A digit word, or why there is none.
-#[derive(Drop)]
+#[derive(Clone, Copy)]
 pub enum Worded {
     Is(DigitWord),
     Refused(Refusal),
 }
 
 // A symbol and the digit word without it, or why there are none.
-#[derive(Drop)]
+#[derive(Clone, Copy)]
 pub enum Deleted {
     At(u64, DigitWord),
     Refused(Refusal),

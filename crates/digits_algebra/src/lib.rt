@@ -1,4 +1,6 @@
 // Multiplicities, the stabilizer, concatenation and deletion of digit words (document 01, "Shapes, digit words, exponents").
+#![tactic(auto)]
+
 ghost use Rattle.std.specs.Prelude.{◌≡◌, ◌<◌, ◌≤◌, length, take};
 ghost use Rattle.words.specs.Inversions.{multiplicity as multiplicityOf};
 ghost use Rattle.answers.specs.Says.{answer_says};

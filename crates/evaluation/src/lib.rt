@@ -1,4 +1,6 @@
 // The mass of a surface that has been judged (02, section 3): by degree rising from 0, then by rank, one product a term.
+#![tactic(auto)]
+
 ghost use Rattle.std.specs.Prelude.{◌≡◌, ◌+◌, ◌*◌, ◌≤◌, ◌<◌, max, length};
 ghost use Rattle.surface.specs.Mass.{mass_of, add_terms};
 ghost use Rattle.surface.specs.Surface.{numbers_at, table_of, surface_of, Surface};

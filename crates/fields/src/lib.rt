@@ -1,5 +1,7 @@
 // The words of a request by their places (docs/RULES.md, section 13), for verbs whose words are bytes or signed numbers: `10` is a number
 // where a number stands and a byte where bytes do, so a text is read as the pattern of its verb says.
+#![tactic(auto)]
+
 ghost use Rattle.std.specs.Prelude.{◌≡◌, [], true, drop, get_or};
 ghost use Rattle.requests.specs.Protocol.{texts_from};
 ghost use Rattle.spelling.specs.Hex.{BytesIn};
@@ -10,14 +12,14 @@ use text::{Named, Number};
 use words::Family;
 
 // Where the words after those of a pattern begin.
-#[derive(Drop)]
+#[derive(Clone, Copy)]
 pub enum Past {
     At(usize),
     Bad,
 }
 
 // How many signed numbers a list has.
-#[derive(Drop)]
+#[derive(Clone, Copy)]
 pub enum Many {
     Are(usize),
     Bad,

@@ -1,4 +1,6 @@
 // A float as text (docs/RULES.md, section 13): the sixteen hex digits of its bits in lower case, the most significant first.
+#![tactic(auto)]
+
 use little_endian::wide;
 use text::Number;
 

@@ -1,5 +1,7 @@
 // A walk over the sets of k numbers below a in colex order that keeps count of how many stand later in lexicographic order (document 02, section 11). From a set
 // to the next one that number moves by a few binomials: no set is ranked.
+#![tactic(auto)]
+
 ghost use Rattle.std.specs.Prelude.{◌≡◌, ◌<◌};
 ghost use Rattle.words.specs.declared.Family.TheVariants.{Forbidden};
 ghost use Rattle.words.specs.Next.{next};

@@ -1,6 +1,8 @@
 // Columns 2 to 16 of Pascal's triangle (DLMF 26.3) in two halves, row n of each holding binomial(n, k): `upper_k` has the rows 32 to 63, `lower_k`
 // those of the rows up to 31 that are not 0, and some below them. Made by tools/halves.py. A `match` of so few arms is compiled into its caller, each time
 // with those arms alone that can be met there, and so without a test; the whole columns (crates `columns_low` and `columns_high`) are called.
+#![tactic(auto)]
+
 ghost use Rattle.std.specs.Prelude.{◌≡◌, ◌≤◌};
 ghost use Rattle.pascal.specs.Row.{entry};
 

@@ -1,5 +1,7 @@
 // The search for a number by halving its column of Pascal's triangle (document 01, "Terms and their order"): the last row that holds at most what is left.
 // A window is n rows, those from b + j n up; one comparison, with the row in its middle, leaves half of it.
+#![tactic(auto)]
+
 ghost use Rattle.std.specs.Prelude.{◌≡◌, ◌+◌, ◌*◌, ◌<◌, ◌≤◌};
 ghost use Rattle.pascal.specs.Row.{entry};
 ghost use Rattle.halving.specs.Search.{value, Sought, Among, Taken};

@@ -1,6 +1,8 @@
 // Runs the work of the program `image` on every line of its input, so that the gate holds each kind of image and of description to what is told of
 // it. A line that begins with `check ` goes on with the bytes of an image as hex digits, and one with `make ` with a description in which `|` stands
 // for the end of a line; the image that is made is written as hex digits.
+#![tactic(auto)]
+
 use imaging::Told;
 
 // What is told of the image that a word of hex digits writes.

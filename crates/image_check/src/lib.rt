@@ -1,4 +1,6 @@
 // The check of a coefficient table image (02, section 1): 11, with the offset of the first wrong field in reading order, or the number of tables.
+#![tactic(auto)]
+
 ghost use Rattle.std.specs.Prelude.{◌≡◌, length};
 ghost use Rattle.answers.specs.Says.{answer_says};
 ghost use Rattle.image_rules.specs.Image.{check_says, image_says};

@@ -1,5 +1,7 @@
 // The text from which an image is made (docs/RULES.md, section 17), line by line: `table`, a family, a degree and an alphabet begin a table, and the
 // lines after it have its entries in the order of their terms' ranks. `#` begins a comment. The contents list and the bodies are lent buffers.
+#![tactic(auto)]
+
 ghost use Rattle.std.specs.Prelude.{◌≡◌, ◌+◌, ◌*◌, ◌≤◌, ◌<◌, length};
 
 use little_endian::wide;
@@ -7,7 +9,7 @@ use text::{Named, Number};
 use words::Family;
 
 // What is wrong with a description, if anything.
-#[derive(Drop)]
+#[derive(Clone, Copy)]
 pub enum Wrong {
     Nothing,
     Family,
@@ -22,7 +24,7 @@ pub enum Wrong {
 
 // How far a description is read: how many tables have begun, how many entries stand in the bodies, the number of the line, and what is wrong in it
 // from which column on.
-#[derive(Drop)]
+#[derive(Clone, Copy)]
 pub struct Making {
     pub tables: u64,
     pub entries: u64,

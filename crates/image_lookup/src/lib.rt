@@ -1,4 +1,6 @@
 // The coefficient of a term in a coefficient table image (02, section 1).
+#![tactic(auto)]
+
 ghost use Rattle.std.specs.Prelude.{◌≡◌, ◌+◌, ◌*◌, ◌≤◌, ◌<◌, ◌^◌, length};
 ghost use Rattle.words.specs.declared.Family.TheVariants.{Forbidden};
 ghost use Rattle.words.specs.Rank.{rank_of};

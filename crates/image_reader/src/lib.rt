@@ -1,4 +1,6 @@
 // The reader record (02, section 1): it holds the lent image and the place of its contents list. Anyone may make one.
+#![tactic(auto)]
+
 ghost use Rattle.std.specs.Prelude.{◌≡◌};
 ghost use Rattle.answers.specs.Says.{answer_says};
 ghost use Rattle.image_reading.specs.Reading.{row_says, found_says};
@@ -11,7 +13,7 @@ use image_reading::Found;
 use words::Family;
 
 // The image, and the place of its contents list.
-#[derive(Drop)]
+#[derive(Clone, Copy)]
 pub struct Reader<'a> {
     pub image: &'a [u8],
     pub place: u64,

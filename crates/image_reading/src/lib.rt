@@ -1,4 +1,6 @@
 // The rows of a coefficient table image (02, section 1): where the table of a family and a degree stands.
+#![tactic(auto)]
+
 ghost use Rattle.std.specs.Prelude.{◌≡◌, ◌+◌, ◌*◌, ◌≤◌, length};
 ghost use Rattle.answers.specs.Says.{answer_says};
 ghost use Rattle.image_reading.specs.Reading.{number_of_family, find_row, number_says, table_at, row_says, found_says};
@@ -8,7 +10,7 @@ use little_endian::{four, wide};
 use words::Family;
 
 // A table of an image: its alphabet, the place of its body, and how many entries that has. Anyone may make one up.
-#[derive(Drop)]
+#[derive(Clone, Copy)]
 pub struct Table {
     pub alphabet: u64,
     pub offset: u64,
@@ -16,7 +18,7 @@ pub struct Table {
 }
 
 // A table, or why there is none.
-#[derive(Drop)]
+#[derive(Clone, Copy)]
 pub enum Found {
     At(Table),
     Refused(Refusal),

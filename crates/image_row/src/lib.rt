@@ -1,4 +1,6 @@
 // One row of the contents list of a coefficient table image (02, section 1), its fields judged in reading order.
+#![tactic(auto)]
+
 ghost use Rattle.std.specs.Prelude.{◌≡◌, ◌+◌, ◌≤◌, length};
 ghost use Rattle.answers.specs.Says.{gives, refuses_at, answer_says};
 ghost use Rattle.little_endian.specs.Bytes.{number_at};

@@ -1,5 +1,7 @@
 // An image of coefficient tables (docs/RULES.md, section 15) as a person reads it: the list of its tables, and what is wrong with a bad one. Each
 // function puts text into a lent buffer from a place on, and answers the place after it. The contents list that it reads may be any bytes.
+#![tactic(auto)]
+
 ghost use Rattle.std.specs.Prelude.{◌≡◌, ◌≤◌, ◌<◌, length, get_or};
 ghost use Rattle.image_text.specs.Place.{Falls};
 
@@ -7,7 +9,7 @@ use answers::Answer;
 use words::Family;
 
 // Where an offset falls: in the number of tables, in a row of the contents list at so many bytes from its beginning, or behind the list.
-#[derive(Drop)]
+#[derive(Clone, Copy)]
 pub enum Place {
     Number,
     Row(u64, u64),
@@ -15,7 +17,7 @@ pub enum Place {
 }
 
 // A table, as its row of the contents list has it.
-#[derive(Drop)]
+#[derive(Clone, Copy)]
 pub struct Table {
     pub family: Family,
     pub degree: u64,

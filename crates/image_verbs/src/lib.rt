@@ -1,5 +1,7 @@
 // The requests on images (docs/RULES.md, section 13; document 02, §1 and §13), each answered by a call of the library. The bytes of a word are
 // read into a buffer that the caller lends, and those that a call writes go into another.
+#![tactic(auto)]
+
 mod images; // images.rt: imagecheck, imagerow, imagelookup, imagewrite
 mod records; // records.rt: recordcheck, recordrow, recordlookup
 mod uplinks; // uplinks.rt: pieces

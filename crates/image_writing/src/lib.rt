@@ -1,4 +1,6 @@
 // The writer of an image (02, section 1): contents and bodies as two byte buffers.
+#![tactic(auto)]
+
 ghost use Rattle.std.specs.Prelude.{◌≡◌, ◌++◌, ◌+◌, ◌≤◌, length};
 ghost use Rattle.std.proofs.Math.Seq.{paste};
 ghost use Rattle.answers.specs.Says.{answer_says, places_of, after};

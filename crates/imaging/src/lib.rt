@@ -1,5 +1,7 @@
 // The program `image` (docs/RULES.md, section 17): checks an image, makes one, and looks a term up, over the calls of the library. What is good goes
 // to standard output, and `good` to descriptor 3 when all of it is written; what is wrong goes to standard error alone.
+#![tactic(auto)]
+
 ghost use Rattle.std.specs.Prelude.{◌≡◌, ◌≤◌, ◌<◌, length};
 
 use answers::{Answer, Index, Indexed, Refusal};
@@ -10,7 +12,7 @@ use text::{Named, Number};
 use words::Family;
 
 // A text in the first places of a lent buffer, and whether it is of something good.
-#[derive(Drop)]
+#[derive(Clone, Copy)]
 pub struct Told {
     pub good: bool,
     pub end: usize,
@@ -46,7 +48,7 @@ fn put_bad(out: &mut [u8], at: usize, list: &[u8], size: u64, offset: u64) -> us
 }
 
 // The state after what is read next, which is a piece or the end, and whether that was a piece.
-#[derive(Drop)]
+#[derive(Clone, Copy)]
 struct Fed {
     state: Pieces,
     more: bool,

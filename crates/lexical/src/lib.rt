@@ -1,5 +1,7 @@
 // Terms in lexicographic order over a fixed alphabet, the lowest position the most significant (document 02, section 11): the order of old tables. Widening the
 // alphabet renumbers terms in this order.
+#![tactic(auto)]
+
 ghost use Rattle.std.specs.Prelude.{◌≡◌, length};
 ghost use Rattle.answers.specs.Says.{answer_says, places_of, after};
 ghost use Rattle.lexical.specs.Rules.{lex_rank_says, lex_unrank_says, lex_successor_says};

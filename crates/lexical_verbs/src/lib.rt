@@ -1,4 +1,6 @@
 // The requests on old tables (docs/RULES.md, section 13), each answered by a call of the library: lexrank, lexunrank, lexnext, and the converter, lexto and lexfrom.
+#![tactic(auto)]
+
 use replies::Reply;
 use words::Family;
 

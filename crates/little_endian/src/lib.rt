@@ -1,4 +1,6 @@
 // Numbers of four and of eight bytes in a slice, the lowest byte first (02, section 1: "little-endian").
+#![tactic(auto)]
+
 ghost use Rattle.std.specs.Prelude.{◌≡◌, ◌+◌, ◌<◌, ◌≤◌, ◌^◌, length};
 ghost use Rattle.little_endian.specs.Bytes.{number_at};
 

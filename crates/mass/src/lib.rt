@@ -1,4 +1,6 @@
 // The mass of one frame (02, section 3): a pressure and a temperature of the same frame, on a surface of Allowed tables over the two symbols 0, pressure, and 1, temperature.
+#![tactic(auto)]
+
 ghost use Rattle.std.specs.Prelude.{◌≡◌, ◌+◌, ◌*◌, ◌≤◌, length};
 ghost use Rattle.surface.specs.Surface.{some_other, Surface};
 ghost use Rattle.mass.specs.Mass.{joined_says, massed_says, join_says, finite_says, sample_says, mass_says};
@@ -7,7 +9,7 @@ use answers::{Answer, Refusal};
 use little_endian::wide;
 
 // The readings of one frame. Anyone may make one up.
-#[derive(Drop)]
+#[derive(Clone, Copy)]
 pub struct Sample {
     pub frame: u64,
     pub pressure: f64,
@@ -15,14 +17,14 @@ pub struct Sample {
 }
 
 // A sample, or why there is none, with the frame.
-#[derive(Drop)]
+#[derive(Clone, Copy)]
 pub enum Joined {
     One(Sample),
     Refused(Refusal, u64),
 }
 
 // A mass, or why there is none, with the frame.
-#[derive(Drop)]
+#[derive(Clone, Copy)]
 pub enum Massed {
     Is(f64),
     Refused(Refusal, u64),

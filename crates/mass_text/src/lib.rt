@@ -1,19 +1,21 @@
 // The lines of the program `mass` (docs/RULES.md, section 22): a line names the frame of the pressure, the pressure, the frame of the temperature and the temperature, and what
 // is written is the mass of the frame or why there is none. A reading is a decimal number, or `0x` and the sixteen digits of its bits.
+#![tactic(auto)]
+
 use answers::Refusal;
 use little_endian::wide;
 use mass::Massed;
 use text::Number;
 
 // What a word says as a reading.
-#[derive(Drop)]
+#[derive(Clone, Copy)]
 pub enum Real {
     Is(f64),
     Bad,
 }
 
 // What a line says: two readings, each with its frame.
-#[derive(Drop)]
+#[derive(Clone, Copy)]
 pub enum Line {
     Frames(u64, f64, u64, f64),
     Bad,

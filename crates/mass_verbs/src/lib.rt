@@ -1,5 +1,7 @@
 // The requests on a frame (docs/RULES.md, section 13; document 02, §3), each answered by the call of the library: join A P C T and mass B A P C T, where P and T are
 // floats. A word of sixteen hex digits writes eight bytes, so where a float stands the pattern has bytes, and the word is read as a float.
+#![tactic(auto)]
+
 use replies::Reply;
 use text::Number;
 

@@ -1,3 +1,5 @@
+#![tactic(auto)]
+
 // The masses of frames by one surface: the image as hex digits in the first line, then two readings a line, each with its frame.
 fn main() {
     massing::run();

@@ -1,9 +1,11 @@
 // The program `mass` (docs/RULES.md, section 22): the first line is the image of a surface as hex digits, and each line after it two readings with their frames. One line is
 // written for each of these, until the end of the input.
+#![tactic(auto)]
+
 ghost use Rattle.std.specs.Prelude.{◌≡◌, ◌≤◌, length};
 
 // How far the input is read: how many lines have ended, how many bytes the surface has, and where the next answer goes.
-#[derive(Drop)]
+#[derive(Clone, Copy)]
 struct Progress {
     lines: u64,
     size: usize,
@@ -80,7 +82,7 @@ fn hold(line: &mut [u8], held: usize, b: u8) -> usize {
 }
 
 // Where a line that is read goes on: how many bytes of it are held, and how far the input is read.
-#[derive(Drop)]
+#[derive(Clone, Copy)]
 struct Held {
     bytes: usize,
     progress: Progress,

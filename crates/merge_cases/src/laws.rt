@@ -3,7 +3,7 @@ use answers::{Index, Sign, Signed};
 use taking::Verdict;
 use words::Family;
 
-#[derive(Drop)]
+#[derive(Clone, Copy)]
 pub struct Triple {
     pub x: Index,
     pub y: Index,
@@ -11,7 +11,7 @@ pub struct Triple {
 }
 
 // An answer in plain numbers: the number of a refusal, or 0 and the sign and the index.
-#[derive(Drop)]
+#[derive(Clone, Copy)]
 struct Outcome {
     number: u64,
     minus: bool,

@@ -1,5 +1,7 @@
 // Runs the laws of merging (docs/RULES.md, section 6; crate merge_laws) over the library's own calls: for each space of cases a line with what the
 // calls answered and how many cases differ from a law, and then the first of those. crates/merge_cases/stdout has 0 that differ.
+#![tactic(auto)]
+
 mod laws; // laws.rt: the laws of two records and of three
 mod spaces; // spaces.rt: the cases
 
@@ -7,7 +9,7 @@ use laws::Triple;
 use spaces::Space;
 
 // What the cases of a space came to; `first` is the last that was found to differ, the cases being run from the last to the first.
-#[derive(Drop)]
+#[derive(Clone, Copy)]
 struct Tally {
     answered: u64,
     with_1: u64,

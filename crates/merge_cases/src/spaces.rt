@@ -4,7 +4,7 @@ use answers::Index;
 use words::Family;
 
 // Each space of triples is of one family: of Allowed if its part is true.
-#[derive(Drop)]
+#[derive(Clone, Copy)]
 pub enum Space {
     Pairs,
     LimitPairs,

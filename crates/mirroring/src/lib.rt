@@ -1,5 +1,7 @@
 // Sets of numbers mirrored, and with them the lexicographic rank of a word and the word of a rank (document 02, section 11): mirroring turns that order into the
 // colex order, the other way round, so both are found by the tables of the new order.
+#![tactic(auto)]
+
 ghost use Rattle.std.specs.Prelude.{◌≡◌, ◌^◌, ◌≤◌, ◌<◌};
 ghost use Rattle.words.specs.Word.{Word, unshifted, shifted_alphabet, count as count_of};
 ghost use Rattle.words.specs.Bits.{set_bits};

@@ -1,4 +1,6 @@
 // How many terms there are, and the start of a walk over all of them (document 01, "Count, start of a walk").
+#![tactic(auto)]
+
 ghost use Rattle.std.specs.Prelude.{◌≡◌};
 ghost use Rattle.answers.specs.Says.{answer_says};
 ghost use Rattle.monotone_count.specs.Rules.{count_says, walk_says};

@@ -1,5 +1,7 @@
 // The rank of a term, by its index and by its word (document 01, "Terms and their order").
 // Every call that is given an index takes it first (02, section 8): 1 if its shifted alphabet is above 64, 7 if a symbol is not below its alphabet.
+#![tactic(auto)]
+
 ghost use Rattle.std.specs.Prelude.{◌≡◌};
 ghost use Rattle.answers.specs.Says.{answer_says};
 ghost use Rattle.monotone_rank.specs.Rules.{rank_of_says, rank_says};

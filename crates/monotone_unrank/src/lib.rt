@@ -1,4 +1,6 @@
 // The term that has a rank, as an index and as a word (document 01, "Terms and their order").
+#![tactic(auto)]
+
 ghost use Rattle.std.specs.Prelude.{◌≡◌, ◌≤◌, length};
 ghost use Rattle.answers.specs.Says.{answer_says, indexed_says, places_of, after};
 ghost use Rattle.monotone_unrank.specs.Rules.{unrank_over_says, unrank_says, widest as widestOf, unrank_any_says};

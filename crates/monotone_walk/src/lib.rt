@@ -1,5 +1,7 @@
 // The next term, and the steps of a walk over all of them (document 01, "Terms and their order").
 // Every call that is given an index takes it first (02, section 8): 1 if its shifted alphabet is above 64, 7 if a symbol is not below its alphabet.
+#![tactic(auto)]
+
 ghost use Rattle.std.specs.Prelude.{◌≡◌};
 ghost use Rattle.answers.specs.Says.{indexed_says};
 ghost use Rattle.monotone_walk.specs.Rules.{next_says, successor_says};
@@ -69,28 +71,28 @@ pub fn successor(x: Index) -> Indexed
 }
 
 // Where a walk stands: at an index, or nowhere.
-#[derive(Drop)]
+#[derive(Clone, Copy)]
 pub enum Current {
     At(Index),
     Nothing,
 }
 
 // The state of a walk: where it stands, and how many indices it has still to give. Anyone may make one up.
-#[derive(Drop)]
+#[derive(Clone, Copy)]
 pub struct Walk {
     pub current: Current,
     pub remaining: u64,
 }
 
 // A walk, or why there is none.
-#[derive(Drop)]
+#[derive(Clone, Copy)]
 pub enum Started {
     Walk(Walk),
     Refused(Refusal),
 }
 
 // The index that a walk stood at and its state after that, or why there is none.
-#[derive(Drop)]
+#[derive(Clone, Copy)]
 pub enum Stepped {
     Step(Index, Walk),
     Refused(Refusal),

@@ -1,3 +1,5 @@
+#![tactic(auto)]
+
 // Converts the text of an old table, from standard input to standard output.
 fn main() {
     oldtable_text::run();

@@ -1,11 +1,13 @@
 // The program `oldtable` (docs/RULES.md, section 20): the text of a table taken apart, its body converted, and the text of the other table written. Its first line says
 // what the old order cannot do.
+#![tactic(auto)]
+
 use answers::{Answer, Refusal};
 use text::{Named, Number};
 use words::Family;
 
 // What a header asks for: whether the way is back to the old order, the family, the number of symbols and the degree.
-#[derive(Drop)]
+#[derive(Clone, Copy)]
 struct Header {
     back: bool,
     family: Family,
@@ -13,14 +15,14 @@ struct Header {
     k: u64,
 }
 
-#[derive(Drop)]
+#[derive(Clone, Copy)]
 enum Asked {
     Table(Header),
     Bad,
 }
 
 // What became of the entries: all are taken, and the text goes on at a place; one is wrong, or missing, counted from 0.
-#[derive(Drop)]
+#[derive(Clone, Copy)]
 enum Taken {
     All(usize),
     Wrong(u64),

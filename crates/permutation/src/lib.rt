@@ -1,5 +1,7 @@
 // Permutations of up to 64 entries: the record, its checks, and the image of a place (document 01, "Permutations"; document 02, sections 6 and 7). Inverse,
 // composition and sign are `permutation_group`'s; rank and order, which end at twenty entries, `permutation_order`'s.
+#![tactic(auto)]
+
 ghost use Rattle.std.specs.Prelude.{◌≡◌, ◌≤◌, length, take, drop};
 ghost use Rattle.answers.specs.Says.{answer_says};
 ghost use Rattle.arrangements.specs.Permutation.{is_permutation};
@@ -13,28 +15,28 @@ pub const CAPACITY: usize = 64;
 
 // A permutation of len entries: the image of place i is entries[i]. Past the length stand zeros, so that a permutation has one record.
 #[repr(C)]
-#[derive(Drop)]
+#[derive(Clone, Copy)]
 pub struct Permutation {
     pub entries: [u64; CAPACITY],
     pub len: u64,
 }
 
 // A sign, or why there is none.
-#[derive(Drop)]
+#[derive(Clone, Copy)]
 pub enum Signature {
     Is(Sign),
     Refused(Refusal),
 }
 
 // Whether there is an answer, or why there is none.
-#[derive(Drop)]
+#[derive(Clone, Copy)]
 pub enum Verdict {
     Given,
     Refused(Refusal),
 }
 
 // A permutation, or why there is none; then the record beside the verdict is the empty one.
-#[derive(Drop)]
+#[derive(Clone, Copy)]
 pub struct Arranged {
     pub verdict: Verdict,
     pub value: Permutation,

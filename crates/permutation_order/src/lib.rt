@@ -1,5 +1,7 @@
 // The colex order of the permutations of up to twenty entries: rank, unrank and successor (document 01, "Permutations"; document 02, section 7; Knuth 7.2.1.2).
 // A record may hold longer ones, which are not numbered.
+#![tactic(auto)]
+
 ghost use Rattle.std.specs.Prelude.{◌≡◌, ◌+◌, ◌%◌, ◌≤◌, ◌<◌, length};
 ghost use Rattle.words.specs.Factorial.{factorial as factorial_of};
 ghost use Rattle.answers.specs.Says.{answer_says};

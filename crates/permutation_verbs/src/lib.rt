@@ -1,6 +1,8 @@
 // The requests on permutations (docs/RULES.md, section 13; document 01, "Permutations"), each answered by a call of the library. A list
 // longer than a record holds stands for a permutation of that length, which every call refuses by 1; `raw`, a length and entries for a record
 // of any length and entries.
+#![tactic(auto)]
+
 ghost use Rattle.std.specs.Prelude.{◌≤◌};
 ghost use Rattle.permutation.specs.Record.{capacity};
 

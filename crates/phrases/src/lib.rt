@@ -1,5 +1,7 @@
 // Text with numbers in it, put into a lent buffer from a place on. Each function answers the place after it. The messages of the programs are made of these: a
 // function that puts two or three parts is proved sooner than one that puts ten.
+#![tactic(auto)]
+
 
 // A text, and a number behind it.
 pub fn with_number(out: &mut [u8], at: usize, before: &[u8], n: u64) -> usize {

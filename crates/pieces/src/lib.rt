@@ -1,4 +1,6 @@
 // The check of an image that comes in pieces (02, section 13). The state holds the first 772 bytes, how many have been seen, and the verdict.
+#![tactic(auto)]
+
 ghost use Rattle.std.specs.Prelude.{◌≡◌, length};
 ghost use Rattle.std.proofs.Math.Seq.{paste};
 ghost use Rattle.image_rules.specs.Image.{check_says};
@@ -7,7 +9,7 @@ ghost use Rattle.pieces.specs.Pieces.{room as room_of, more as moreOf, told, end
 use answers::Answer;
 
 // Open while more may come; at the end the number of tables, or the offset of the first wrong field.
-#[derive(Drop)]
+#[derive(Clone, Copy)]
 pub enum Verdict {
     Open,
     Good(u64),
@@ -15,7 +17,7 @@ pub enum Verdict {
 }
 
 // Anyone may make one up.
-#[derive(Drop)]
+#[derive(Clone, Copy)]
 pub struct Pieces {
     pub bytes: [u8; 772],
     pub seen: u64,

@@ -1,6 +1,8 @@
 // The check of an image that comes in pieces (02, section 13), its state lent in four parts: the first 772 bytes, how many have been seen, and the verdict as two numbers.
 // This is the form for callers that cannot pass an enum or a large record. The verdict is 0 for open, 1 for good and 2 for bad, every other number is read as 2; the number
 // beside it is how many tables there are, or the offset. Anyone may make a state up.
+#![tactic(auto)]
+
 ghost use Rattle.std.specs.Prelude.{◌≡◌};
 ghost use Rattle.pieces.specs.Pieces.{start as start_of, fed, closed};
 ghost use Rattle.pieces_lent.specs.Parts.{verdict_at, state_at, code_of, number_in};

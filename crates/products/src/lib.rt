@@ -1,4 +1,6 @@
 // A signed number times a multiplicity (document 02, section 10): whether the product is in the range of i64, tested before it is formed, and the product.
+#![tactic(auto)]
+
 ghost use Rattle.std.specs.Prelude.{◌≡◌, true, ◌≤◌, pos, ◌*ℤ◌};
 ghost use Rattle.products.specs.Range.{inside};
 

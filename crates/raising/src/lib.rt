@@ -1,5 +1,7 @@
 // The next word in lexicographic order over a fixed alphabet, on slices (document 02, section 11; Knuth 7.2.1.3): the highest symbol that can be raised is raised
 // by one, and those above it fall back to the lowest that can stand there.
+#![tactic(auto)]
+
 ghost use Rattle.std.specs.Prelude.{◌≡◌, ◌-◌, ◌≤◌, ◌<◌, length};
 ghost use Rattle.words.specs.Next.{highest as highestOf, base as base_of};
 ghost use Rattle.answers.specs.Says.{after, gives};

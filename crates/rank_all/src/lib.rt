@@ -1,5 +1,7 @@
 // The ranks of many indices of one family and one alphabet (document 02, section 12): a loop of calls pays for each call, and this for one.
 // An index that is not taken refuses all, as it would alone, and tells its position; nothing is written unless all are good.
+#![tactic(auto)]
+
 ghost use Rattle.std.specs.Prelude.{◌≡◌, ◌++◌, ◌≤◌, length, drop};
 ghost use Rattle.answers.specs.Says.{places_of, after};
 ghost use Rattle.rank_all.specs.Rules.{set_ranks, JudgesAll, rank_all_says, ranked_says};
@@ -9,14 +11,14 @@ use taking::Verdict;
 use words::Family;
 
 // Whether all indices are taken, or why the first that is not is refused, and its position.
-#[derive(Drop)]
+#[derive(Clone, Copy)]
 pub enum Judged {
     Good,
     Bad(Refusal, u64),
 }
 
 // How many ranks are written, or why none is, and a position: that of the index that is not taken, or the first that has no room.
-#[derive(Drop)]
+#[derive(Clone, Copy)]
 pub enum Ranked {
     All(u64),
     Refused(Refusal, u64),

@@ -1,5 +1,7 @@
 // The answer to a request (docs/RULES.md, section 13), put into the buffer of the output from a place on. Each function answers the place
 // after it.
+#![tactic(auto)]
+
 use answers::{Answer, Index, Indexed, Refusal, Sign, Signed};
 use deletion::Deleted;
 use digits::{Deleted as DigitDeleted, Worded};
@@ -9,7 +11,7 @@ use permutation::Signature;
 use wide::{Wide, WideDeleted, WideIndexed, WideSigned};
 
 // What a request is answered with.
-#[derive(Drop)]
+#[derive(Clone, Copy)]
 pub enum Reply {
     // it is no request
     Bad,

@@ -1,5 +1,7 @@
 // A request (docs/RULES.md, section 13), taken apart once: the words after its verb, each with a byte for its kind and its value.
 // The kinds: n a number, f and a the families, / itself, h and w the places of a walk (here, nowhere), r the word raw.
+#![tactic(auto)]
+
 ghost use Rattle.std.specs.Prelude.{◌≡◌, true, ◌+◌, ◌<◌, ◌≤◌, length, take, drop, get_or};
 ghost use Rattle.text.specs.Text.{Found};
 ghost use Rattle.requests.specs.Protocol.{texts_from};
@@ -10,7 +12,7 @@ use text::{Named, Number};
 use words::Family;
 
 // Where the verb of a line stands, and how many places it is lent before that.
-#[derive(Drop)]
+#[derive(Clone, Copy)]
 pub enum Begun {
     // the places lent, and the verb's first place and the place after it
     Verb(u64, usize, usize),
@@ -18,7 +20,7 @@ pub enum Begun {
 }
 
 // What stands after the verb.
-#[derive(Drop)]
+#[derive(Clone, Copy)]
 pub enum Rest {
     Words(usize),
     Bad,

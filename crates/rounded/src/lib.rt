@@ -1,4 +1,6 @@
 // Numbers of f64 (02, section 3): which are finite, and their bit patterns, for every f64 and every pattern.
+#![tactic(auto)]
+
 ghost use Rattle.std.specs.Prelude.{◌≡◌};
 ghost use Rattle.std.specs.Float.{binary64};
 ghost use Rattle.std.specs.Float.Ieee.{of_bits, to_bits};

@@ -1,4 +1,6 @@
 // The requests on shapes, digit words and exponents (docs/RULES.md, section 13), each answered by a call of the library.
+#![tactic(auto)]
+
 mod digit_words; // digit_words.rt: digits and the verbs that begin with digit
 mod exponents; // exponents.rt: the verbs that begin with exp
 mod shapes; // shapes.rt: shapecount, strides, linearize, delinearize, corner

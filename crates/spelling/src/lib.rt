@@ -1,5 +1,7 @@
 // Bytes and signed numbers as text (docs/RULES.md, section 13). A byte is two hex digits in lower case, and no bytes at all are `-`; a signed
 // number is decimal, with `-` in front where it is negative.
+#![tactic(auto)]
+
 ghost use Rattle.std.specs.Prelude.{◌≡◌, true, ◌-◌, ◌/◌, ◌%◌, ◌^◌, ◌≤◌, ◌<◌, length, pos, negsuc};
 ghost use Rattle.text.specs.Text.{Put};
 ghost use Rattle.spelling.specs.Hex.{digit_text, HexDigit, ByteOf, AllDigits, IsBytes, bytes_text, BytesIn};
@@ -8,7 +10,7 @@ ghost use Rattle.spelling.specs.Signed.{ReadsSigned, size_of};
 use text::Number;
 
 // What a word says as a signed number: a number from -2^63 to 2^63 - 1, or none.
-#[derive(Drop)]
+#[derive(Clone, Copy)]
 pub enum Whole {
     Is(i64),
     Bad,

@@ -1,4 +1,6 @@
 // Standard input and output in blocks, through buffers that the caller lends.
+#![tactic(auto)]
+
 ghost use Rattle.std.specs.Prelude.{◌+◌, ◌≤◌, length};
 
 // Reads once from standard input into a lent buffer, and answers how many bytes came: 0 at the end of the input.

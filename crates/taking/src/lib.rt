@@ -1,4 +1,6 @@
 // Taking an index: whether a record holds a word over the alphabet that it names, tested before all else by every call that is given one.
+#![tactic(auto)]
+
 ghost use Rattle.std.specs.Prelude.{◌≡◌, false, ◌≤◌, ltb};
 ghost use Rattle.words.specs.Word.{shifted_alphabet};
 ghost use Rattle.taking.specs.Taken.{shifted_alphabet_of as top_of, too_wide, outside as outsideOf, verdict_of, verdict_of_both};
@@ -7,7 +9,7 @@ use answers::{Index, Refusal};
 use words::Family;
 
 // Whether a record is taken, or why not.
-#[derive(Drop)]
+#[derive(Clone, Copy)]
 pub enum Verdict {
     Accepted,
     Refused(Refusal),

@@ -1,4 +1,6 @@
 // The requests on terms and on sets (docs/RULES.md, section 13), each answered by a call of the library.
+#![tactic(auto)]
+
 mod sets; // sets.rt: insert, contains, position, select
 mod signed; // signed.rt: canonical, merge, delete, complement, stabilizer
 mod terms; // terms.rt: count, walk, rank, unrank, pack, unpack, next, step, symbol, degree

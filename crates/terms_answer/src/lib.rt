@@ -1,4 +1,6 @@
 // What document 01's program writes for one line: the header, and the words of a family in their order.
+#![tactic(auto)]
+
 use answers::{Answer, Index, Refusal};
 use monotone_walk::{Started, Stepped, Walk};
 use terms_line::Line;

@@ -1,3 +1,5 @@
+#![tactic(auto)]
+
 // Runs the work of the program `terms` on every line of its input, so that the gate holds each kind of line to what is written for it.
 fn answer_each(input: &[u8]) {
     let mut at = 0;

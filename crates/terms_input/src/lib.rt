@@ -1,5 +1,7 @@
 // Document 01's program, from standard input to standard output: reads one line and writes the words that it asks for. Later input is
 // ignored.
+#![tactic(auto)]
+
 ghost use Rattle.std.specs.Prelude.{◌≤◌, ◌<◌, length};
 ghost use Rattle.terms_line.specs.Line.{line_limit};
 

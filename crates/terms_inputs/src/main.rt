@@ -1,3 +1,5 @@
+#![tactic(auto)]
+
 // Document 01's program on inputs that would show a line that is cut, each a file of data/: no input at all; a good line of 51 bytes, the longest, and further
 // lines after it; the same with one digit more and no newline; a good line with spaces after it, 63 bytes in all; one with digits after it, 64 bytes in all, and
 // 65 and a good line after it. The gate holds it to what is written for them.

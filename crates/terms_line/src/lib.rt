@@ -1,11 +1,13 @@
 // The lines of document 01's program, taken apart.
+#![tactic(auto)]
+
 ghost use Rattle.terms_line.specs.Line.{Parses, Answers};
 
 use text::{Named, Number};
 use words::Family;
 
 // What a line asks for.
-#[derive(Drop)]
+#[derive(Clone, Copy)]
 pub enum Line {
     Words(Family, u64, u64),
     Bad,

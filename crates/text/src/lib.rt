@@ -1,4 +1,6 @@
 // Text as bytes in lent slices: words and numbers are read from a slice and written into one. The programs are thin over it.
+#![tactic(auto)]
+
 ghost use Rattle.std.specs.Prelude.{◌≡◌, [], ◌∷◌, ◌<◌, length, drop};
 ghost use Rattle.text.specs.Text.{Found, Put};
 ghost use Rattle.text.specs.Numeral.{Numeral, Reads, PutNumeral};
@@ -7,14 +9,14 @@ ghost use Rattle.text.specs.Names.{Names};
 use words::Family;
 
 // What a word says as a number: a number below 2^64, or none.
-#[derive(Drop)]
+#[derive(Clone, Copy)]
 pub enum Number {
     Is(u64),
     Bad,
 }
 
 // What a word names: a family, or none.
-#[derive(Drop)]
+#[derive(Clone, Copy)]
 pub enum Named {
     Family(Family),
     Nothing,

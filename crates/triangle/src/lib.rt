@@ -1,5 +1,7 @@
 // Pascal's triangle (DLMF 26.3) as one list of 1024 numbers in 16 parts, so that a coefficient is found at one place (specs/Cells): what the last arm of each
 // part calls, where none of its places is.
+#![tactic(auto)]
+
 ghost use Rattle.std.specs.Prelude.{◌≡◌, ◌<◌};
 ghost use Rattle.triangle.specs.Cells.{cell_of};
 

@@ -1,4 +1,6 @@
 // The parts 0 to 7 of the list of cells of Pascal's triangle (crates/triangle), 64 cells each. Made by tools/triangle.py. Each `match` compiles to one table.
+#![tactic(auto)]
+
 ghost use Rattle.std.specs.Prelude.{◌≡◌, ◌<◌};
 ghost use Rattle.triangle.specs.Cells.{cell_of};
 

@@ -1,10 +1,12 @@
 // The wide index and the answers that carry it (document 02, section 9): a shifted alphabet up to 128. `specs/Rules` has what every call on it answers.
+#![tactic(auto)]
+
 use answers::{Refusal, Sign};
 use words::Family;
 
 // A wide index holds its family and the set of its shifted symbols, 0 to 63 as the bits of the low half and 64 to 127 as those of the high one. It names no
 // alphabet: every two halves are an index, and no call refuses one.
-#[derive(Drop)]
+#[derive(Clone, Copy)]
 pub struct Wide {
     pub family: Family,
     pub low: u64,
@@ -12,21 +14,21 @@ pub struct Wide {
 }
 
 // A wide index, or why there is none.
-#[derive(Drop)]
+#[derive(Clone, Copy)]
 pub enum WideIndexed {
     At(Wide),
     Refused(Refusal),
 }
 
 // A sign and a wide index, or why there are none.
-#[derive(Drop)]
+#[derive(Clone, Copy)]
 pub enum WideSigned {
     At(Sign, Wide),
     Refused(Refusal),
 }
 
 // A sign, the symbol that was deleted, and the index of what is left, or why there are none.
-#[derive(Drop)]
+#[derive(Clone, Copy)]
 pub enum WideDeleted {
     At(Sign, u64, Wide),
     Refused(Refusal),

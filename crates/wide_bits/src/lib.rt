@@ -1,12 +1,14 @@
 // Sets of numbers below 128 as the ones of two halves (02, §9: "a wide index of two 64-bit halves"): number s is bit s of the low half, or bit s - 64 of the high one.
 // Every function has its answer for every input, and each promise is about the one number of 128 digits that the halves make.
+#![tactic(auto)]
+
 ghost use Rattle.std.specs.Prelude.{◌≡◌, ◌+◌, ◌*◌, ◌/◌, ◌%◌, ◌^◌, length, drop, ◌==◌, bit_and, bit_or, bit_xor, slice_index_or};
 ghost use Rattle.words.specs.Bits.{set_bits};
 ghost use Rattle.words.specs.Inversions.{smaller_in};
 ghost use Rattle.wide_bits.specs.Whole.{whole};
 
 // A number of 128 digits.
-#[derive(Drop)]
+#[derive(Clone, Copy)]
 pub struct Halves {
     pub low: u64,
     pub high: u64,

@@ -1,5 +1,7 @@
 // Columns 9 to 33 of Pascal's triangle (DLMF 26.3), rows 65 to 128 as far as an entry is below 2^64, row n of column k holding binomial(n, k). Made by
 // tools/wide_columns.py. Each `match` compiles to one table; another row goes along it. A row above 128 is kept out by the caller.
+#![tactic(auto)]
+
 ghost use Rattle.std.specs.Prelude.{◌≡◌, ◌≤◌};
 ghost use Rattle.wide_pascal.specs.Capped.{capped_entry};
 

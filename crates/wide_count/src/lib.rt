@@ -1,4 +1,6 @@
 // How many wide terms there are (document 02, section 9).
+#![tactic(auto)]
+
 ghost use Rattle.std.specs.Prelude.{◌≡◌, ◌≤◌};
 ghost use Rattle.words.specs.Word.{shifted_alphabet};
 ghost use Rattle.answers.specs.Says.{answer_says};

@@ -1,4 +1,6 @@
 // Deleting a symbol from a wide term (document 02, section 9; document 01, "deletion closes the gap").
+#![tactic(auto)]
+
 ghost use Rattle.std.specs.Prelude.{◌≡◌, ◌+◌, ◌*◌, ◌/◌, ◌%◌, ◌^◌, ◌≤◌, ◌<◌};
 ghost use Rattle.wide_bits.specs.Whole.{whole};
 ghost use Rattle.wide.specs.Answers.{wide_deleted_says};

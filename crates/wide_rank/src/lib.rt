@@ -1,4 +1,6 @@
 // The rank of a wide term, given as a word or as an index (document 02, section 9).
+#![tactic(auto)]
+
 ghost use Rattle.std.specs.Prelude.{◌≡◌, ◌≤◌, ltb, length};
 ghost use Rattle.words.specs.Word.{Below, shifted};
 ghost use Rattle.words.specs.Rank.{rank_of};

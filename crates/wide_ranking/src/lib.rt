@@ -1,4 +1,6 @@
 // The rank of a set of numbers below 128, given as two halves (document 02, §9): the sum of binomial(number, position + 1).
+#![tactic(auto)]
+
 ghost use Rattle.std.specs.Prelude.{◌≡◌};
 ghost use Rattle.words.specs.declared.Family.TheVariants.{Forbidden};
 ghost use Rattle.words.specs.Rank.{rank_of};

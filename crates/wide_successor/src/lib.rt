@@ -1,4 +1,6 @@
 // The next wide term (document 02, section 9; Gosper's step, Knuth 7.1.3).
+#![tactic(auto)]
+
 ghost use Rattle.std.specs.Prelude.{◌≡◌};
 ghost use Rattle.seam.specs.Later.{later_in};
 ghost use Rattle.wide_bits.specs.Whole.{whole};

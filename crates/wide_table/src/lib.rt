@@ -1,4 +1,6 @@
 // Binomial coefficients up to row 128 from tables, as far as 64 digits hold them (document 02, §9). Rows up to 64 are those of the crate `count`.
+#![tactic(auto)]
+
 ghost use Rattle.std.specs.Prelude.{◌≡◌, ◌≤◌};
 ghost use Rattle.wide_pascal.specs.Capped.{capped_entry};
 

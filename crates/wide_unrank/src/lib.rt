@@ -1,4 +1,6 @@
 // The wide term that has a rank, as an index and as a word (document 02, section 9).
+#![tactic(auto)]
+
 ghost use Rattle.std.specs.Prelude.{◌≡◌, ◌++◌, ◌≤◌, length, drop};
 ghost use Rattle.words.specs.Bits.{set_bits};
 ghost use Rattle.answers.specs.Says.{answer_says, places_of, after};

@@ -1,5 +1,7 @@
 // The set of k numbers below n, up to 128, that has a given rank, as two halves (document 02, section 9): from the top position down, each position takes the greatest
 // number whose weight fits into what is left.
+#![tactic(auto)]
+
 ghost use Rattle.std.specs.Prelude.{◌≡◌, ◌<◌, ◌≤◌, ◌^◌};
 ghost use Rattle.words.specs.declared.Family.TheVariants.{Forbidden};
 ghost use Rattle.pascal.specs.Choose.{choose};

@@ -1,4 +1,6 @@
 // The requests on wide indices (docs/RULES.md, section 13), each answered by a call of the library. An index is its family and its two halves, the low one first.
+#![tactic(auto)]
+
 use replies::Reply;
 use wide::Wide;
 

@@ -1,0 +1,9 @@
+-- `boundary_frames::joined` meets its contract: by the case of the answer. Assumes nothing.
+use mathlib.Core.Path.{refl}
+use Rattle.boundary_frames.proofs.joined.Goals as goal
+
+pub returns-in-One : goal.returns-in-One
+returns-in-One c = simp (c.in-One.is, c.answer.ensures) (refl, (refl, (refl, refl)))
+
+pub returns-in-Refused : goal.returns-in-Refused
+returns-in-Refused c = simp (c.in-Refused.is, c.refused.ensures) (refl, (refl, (refl, refl)))

@@ -1,0 +1,9 @@
+-- `boundary_wide::deleted` meets its contract: by the case of the answer. Assumes nothing.
+use mathlib.Core.Path.{refl}
+use Rattle.boundary_wide.proofs.deleted.Goals as goal
+
+pub returns-in-At : goal.returns-in-At
+returns-in-At c = simp (c.in-At.is, c.is_minus.ensures, c.answer.ensures) (refl, (refl, (refl, (refl, refl))))
+
+pub returns-in-Refused : goal.returns-in-Refused
+returns-in-Refused c = simp (c.in-Refused.is, c.refused.ensures) (refl, (refl, (refl, (refl, refl))))

@@ -1,0 +1,51 @@
+-- `cartesian_strides::corner` meets its contract, by the laws of `Summing`. Assumes nothing.
+use mathlib.Core.Path.{◌≡◌, sym, ap, ◌∙◌}
+use mathlib.Core.Bool.{false}
+use mathlib.Core.Logic.{⊎_elim}
+use Prim.Native.Nat.{◌-◌, ◌/◌, ◌^◌}
+use native.Mathlib.Omega.{arith}
+use borrow.Author.Tests.{lt-ltb, le-ltb, eqb-true, not-false}
+use lib.ListN.{length}
+use Rattle.words.specs.Bits.{set_bits}
+use Rattle.bits.specs.Member.{reaches}
+use Rattle.bits.proofs.Member.{reaches_is_quotient}
+use Rattle.positional.specs.Positional.{stride}
+use Rattle.answers.specs.Says.{answer_says}
+use Rattle.cartesian_strides.proofs.Corners.{Summing, summing_starts, summing_turn, summing_ends, axis_chosen, axis_left_out}
+use Rattle.cartesian_strides.proofs.corner.Goals as goal
+
+pub returns-then-radices-gt16 : goal.returns-then-radices-gt16
+returns-then-radices-gt16 c = simp (lt-ltb _ _ c.if-radices-gt16.true)
+
+pub returns-then-reaches : goal.returns-then-reaches
+returns-then-reaches c = simp (le-ltb _ _ c.if-radices-gt16.false, sym c.reaches.ensures ∙ c.if-reaches.true)
+
+pub loop-i-init : goal.loop-i-init
+loop-i-init c = summing_starts c.args.radices.now c.args.axes
+
+pub offset_bounds-radices-i : goal.offset_bounds-radices-i
+offset_bounds-radices-i c = omega arith
+
+pub bounds-radices-i : goal.bounds-radices-i
+bounds-radices-i c = omega arith
+
+pub overflow_add-i : goal.overflow_add-i
+overflow_add-i c = omega arith
+
+pub loop-i-smaller : goal.loop-i-smaller
+loop-i-smaller c = omega arith
+
+pub loop-i-preserved : goal.loop-i-preserved
+loop-i-preserved c =
+    summing_turn c.args.radices.now c.args.axes (answer_says c.loop-i.sum) (answer_says c.loop-i.stride) (answer_says c.if-left-eq1.sum) (answer_says c.times-stride.result) c.loop-i.left c.loop-i.i c.loop-i.invariant (omega arith)
+    (λ m e. ⊎_elim
+    (λ w. ap answer_says w.2 ∙ w.1.ensures m (stride c.args.radices.now c.loop-i.i) e c.loop-i.invariant.grown ∙ axis_chosen c.loop-i.left m (stride c.args.radices.now c.loop-i.i) w.0.taken)
+    (λ w. ap answer_says w.1 ∙ e ∙ axis_left_out c.loop-i.left m (stride c.args.radices.now c.loop-i.i) w.0.left)
+    c.if-left-eq1.branch)
+    c.times-stride.ensures
+
+pub returns : goal.returns
+returns c =
+    let e : reaches (length c.args.radices.now) (set_bits c.args.axes) ≡ false = sym c.reaches.ensures ∙ c.if-reaches.false in
+    let none : c.args.axes / 2 ^ length c.args.radices.now ≡ 0 = eqb-true _ 0 (not-false _ (sym (reaches_is_quotient (length c.args.radices.now) c.args.axes) ∙ e)) in
+    simp (le-ltb _ _ c.if-radices-gt16.false, e) (summing_ends c.args.radices.now c.args.axes (answer_says c.loop-i.sum) (answer_says c.loop-i.stride) c.loop-i.left c.loop-i.i c.loop-i.invariant (omega arith) none)

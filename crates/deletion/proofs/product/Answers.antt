@@ -1,0 +1,49 @@
+-- `deletion::product` meets its contract, by the laws of `Multiplying`. Assumes nothing.
+use mathlib.Core.Path.{sym}
+use mathlib.Core.Logic.{⊎_map}
+use Prim.Native.Nat.{◌-◌}
+use native.Mathlib.Omega.{arith}
+use borrow.Author.Rules.{rules}
+use borrow.Author.Tests.{le-leb, lt-leb}
+use Rattle.deletion.proofs.Multiplying.{multiplied_starts, place, few, occurs-here, multiplied-turn, multiplied-past, multiplied_ends, too_big_lem, small-enough}
+use Rattle.deletion.proofs.product.Goals as goal
+
+pub loop-left-init : goal.loop-left-init
+loop-left-init c = multiplied_starts c.args.x.family c.args.x.bits
+
+pub overflow_sub-symbol : goal.overflow_sub-symbol
+overflow_sub-symbol c = (place c.loop-left.invariant (omega arith) c.lowest.ensures c.shift.ensures).taken
+
+pub overflow_add-run : goal.overflow_add-run
+overflow_add-run c = omega (arith, few c.loop-left.invariant (omega arith) c.lowest.ensures c.shift.ensures 64 (search rules), c.loop-left.invariant.running.short)
+
+pub nonzero_div-run : goal.nonzero_div-run
+nonzero_div-run c = let o = occurs-here c.loop-left.invariant (omega arith) c.lowest.ensures c.shift.ensures (⊎_map (λ w. (w.0.taken, w.1)) (λ w. (w.0.left, w.1)) c.if-symbol-previous.branch) in omega (arith, o.times)
+
+pub returns-then-run-product : goal.returns-then-run-product
+returns-then-run-product c =
+    let o = occurs-here c.loop-left.invariant (omega arith) c.lowest.ensures c.shift.ensures (⊎_map (λ w. (w.0.taken, w.1)) (λ w. (w.0.left, w.1)) c.if-symbol-previous.branch) in
+    let h = multiplied-past c.loop-left.invariant o (omega (arith, too_big_lem 18446744073709551615 c.if-symbol-previous.run c.loop-left.product (omega (arith, o.times)) c.if-run-product.true)) in
+    simp (le-leb _ _ h)
+
+pub overflow_mul-product : goal.overflow_mul-product
+overflow_mul-product c =
+    let o = occurs-here c.loop-left.invariant (omega arith) c.lowest.ensures c.shift.ensures (⊎_map (λ w. (w.0.taken, w.1)) (λ w. (w.0.left, w.1)) c.if-symbol-previous.branch) in
+    omega (arith, small-enough 18446744073709551615 c.if-symbol-previous.run c.loop-left.product (omega (arith, o.times)) c.if-run-product.false)
+
+pub overflow_add-i : goal.overflow_add-i
+overflow_add-i c = omega (arith, few c.loop-left.invariant (omega arith) c.lowest.ensures c.shift.ensures 64 (search rules))
+
+pub loop-left-smaller : goal.loop-left-smaller
+loop-left-smaller c = omega (arith, (place c.loop-left.invariant (omega arith) c.lowest.ensures c.shift.ensures).within)
+
+pub loop-left-preserved : goal.loop-left-preserved
+loop-left-preserved c =
+    let o = occurs-here c.loop-left.invariant (omega arith) c.lowest.ensures c.shift.ensures (⊎_map (λ w. (w.0.taken, w.1)) (λ w. (w.0.left, w.1)) c.if-symbol-previous.branch) in
+    multiplied-turn c.loop-left.invariant (omega arith) c.lowest.ensures c.shift.ensures c.without_lowest-left.result o c.without_lowest-left.ensures
+    (omega (arith, small-enough 18446744073709551615 c.if-symbol-previous.run c.loop-left.product (omega (arith, o.times)) c.if-run-product.false))
+
+pub returns : goal.returns
+returns c =
+    let e = multiplied_ends c.loop-left.invariant (omega arith) in
+    simp (sym e, lt-leb _ _ c.loop-left.invariant.fits)

@@ -1,0 +1,17 @@
+-- `monotone_rank::rank_of` meets its contract: the record is taken. Assumes nothing.
+use mathlib.Core.Path.{sym, ap, ◌∙◌}
+use Rattle.words.specs.Rank.{rank_of}
+use Rattle.answers.specs.Says.{gives}
+use Rattle.answers.specs.Terms.{word_of}
+use Rattle.answers.proofs.Terms.{rank_of_word_lem}
+use Rattle.taking.proofs.Accepted.{took}
+use Rattle.monotone_rank.proofs.rank_of.Goals as goal
+
+pub returns-in-Refused : goal.returns-in-Refused
+returns-in-Refused c =
+    took c.args.x (gives (rank_of c.args.x.family (word_of c.args.x))) c.take.result _ c.take.ensures c.in-Refused.is
+
+pub returns : goal.returns
+returns c =
+    ap gives (c.rank.ensures ∙ sym (rank_of_word_lem c.args.x))
+    ∙ took c.args.x (gives (rank_of c.args.x.family (word_of c.args.x))) c.take.result _ c.take.ensures c.in_default.is

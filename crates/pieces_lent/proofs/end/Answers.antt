@@ -1,0 +1,13 @@
+-- `pieces_lent::end` meets its contract. Assumes nothing.
+use mathlib.Core.Path.{ap, ◌∙◌}
+use Rattle.pieces.specs.declared.Pieces.{Pieces}
+use Rattle.pieces.specs.Pieces.{closed}
+use Rattle.pieces_lent.specs.Parts.{code_of, number_in}
+use Rattle.pieces_lent.proofs.end.Goals as goal
+
+pub returns : goal.returns
+returns c =
+    let e = c.end.ensures ∙ ap (λ (p : Pieces). closed p) c.taken-p.ensures in (
+      c.put.ensures.0 ∙ ap (λ (p : Pieces). p.verdict) e,
+      (c.put.ensures.1.0 ∙ ap (λ (p : Pieces). p.bytes) e, (c.put.ensures.1.1.0 ∙ ap (λ (p : Pieces). p.seen) e, (c.put.ensures.1.1.1.0 ∙ ap (λ (p : Pieces). code_of p.verdict) e, c.put.ensures.1.1.1.1 ∙ ap (λ (p : Pieces). number_in p.verdict) e))),
+    )

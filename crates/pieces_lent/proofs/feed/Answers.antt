@@ -1,0 +1,13 @@
+-- `pieces_lent::feed` meets its contract. Assumes nothing.
+use mathlib.Core.Path.{ap, ◌∙◌}
+use Rattle.pieces.specs.declared.Pieces.{Pieces}
+use Rattle.pieces.specs.Pieces.{fed}
+use Rattle.pieces_lent.specs.Parts.{code_of, number_in}
+use Rattle.pieces_lent.proofs.feed.Goals as goal
+
+pub returns : goal.returns
+returns c =
+    let e = c.feed.ensures ∙ ap (λ (p : Pieces). fed p c.before.before.before.before.before.before.before.before.before.before.before.before.args.piece.now) c.taken-p.ensures in (
+      c.put.ensures.0 ∙ ap (λ (p : Pieces). p.verdict) e,
+      (c.put.ensures.1.0 ∙ ap (λ (p : Pieces). p.bytes) e, (c.put.ensures.1.1.0 ∙ ap (λ (p : Pieces). p.seen) e, (c.put.ensures.1.1.1.0 ∙ ap (λ (p : Pieces). code_of p.verdict) e, c.put.ensures.1.1.1.1 ∙ ap (λ (p : Pieces). number_in p.verdict) e))),
+    )

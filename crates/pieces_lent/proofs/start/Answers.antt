@@ -1,0 +1,13 @@
+-- `pieces_lent::start` meets its contract. Assumes nothing.
+use mathlib.Core.Path.{ap, ◌∙◌}
+use Rattle.pieces.specs.declared.Pieces.{Pieces}
+use Rattle.pieces.specs.Pieces.{start}
+use Rattle.pieces_lent.specs.Parts.{code_of, number_in}
+use Rattle.pieces_lent.proofs.start.Goals as goal
+
+pub returns : goal.returns
+returns c =
+    (
+      c.put.ensures.0 ∙ ap (λ (p : Pieces). p.verdict) c.start.ensures,
+      (c.put.ensures.1.0 ∙ ap (λ (p : Pieces). p.bytes) c.start.ensures, (c.put.ensures.1.1.0 ∙ ap (λ (p : Pieces). p.seen) c.start.ensures, (c.put.ensures.1.1.1.0 ∙ ap (λ (p : Pieces). code_of p.verdict) c.start.ensures, c.put.ensures.1.1.1.1 ∙ ap (λ (p : Pieces). number_in p.verdict) c.start.ensures))),
+    )

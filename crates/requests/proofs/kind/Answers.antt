@@ -1,0 +1,40 @@
+-- `requests::kind` meets its contract: each return by the comparison or the name that led there. Assumes nothing.
+use mathlib.Core.Path.{◌≡◌, refl, ap, subst, ◌∙◌}
+use mathlib.Core.Bool.{Bool, true, false}
+use Prim.Native.Nat.{ℕ}
+use native.Mathlib.Omega.{arith}
+use Rattle.words.specs.declared.Family.TheVariants.{Forbidden, Allowed}
+use Rattle.text.specs.Names.{Names}
+use Rattle.text.specs.declared.Named.TheVariants as named
+use Rattle.requests.specs.Protocol.{family, slash, here, nowhere, raw}
+use Rattle.requests.proofs.Passing.{kind_is, no_kind}
+use Rattle.requests.proofs.kind.Goals as goal
+
+refused : {t : Bool} → t ≡ true → t ≡ false → ⊥
+refused p q = let z : ◌≡◌ {A = ℕ} 0 1 = cc in omega arith
+
+pub returns-then-same : goal.returns-then-same
+returns-then-same c = kind_is _ slash 47 (c.same.ensures.0 c.if-same.true) refl refl (omega arith)
+
+pub returns-then-same-2 : goal.returns-then-same-2
+returns-then-same-2 c = kind_is _ here 104 (c.same-2.ensures.0 c.if-same-2.true) refl refl (omega arith)
+
+pub returns-then-same-3 : goal.returns-then-same-3
+returns-then-same-3 c = kind_is _ nowhere 119 (c.same-3.ensures.0 c.if-same-3.true) refl refl (omega arith)
+
+pub returns-then-same-4 : goal.returns-then-same-4
+returns-then-same-4 c = kind_is _ raw 114 (c.same-4.ensures.0 c.if-same-4.true) refl refl (omega arith)
+
+pub returns-in-Forbidden : goal.returns-in-Forbidden
+returns-in-Forbidden c = kind_is _ (family Forbidden) 102 (subst (Names _) (c.in-Family.is ∙ ap named.Family c.in-Forbidden.is) c.family.ensures) refl refl (omega arith)
+
+pub returns-in-Allowed : goal.returns-in-Allowed
+returns-in-Allowed c = kind_is _ (family Allowed) 97 (subst (Names _) (c.in-Family.is ∙ ap named.Family c.in-Allowed.is) c.family.ensures) refl refl (omega arith)
+
+pub returns-in-Nothing : goal.returns-in-Nothing
+returns-in-Nothing c =
+    no_kind _ _ c.in-Nothing.is c.family.ensures
+    (λ e. refused (c.same.ensures.1 e) c.if1.false)
+    (λ e. refused (c.same2.ensures.1 e) c.if2.false)
+    (λ e. refused (c.same3.ensures.1 e) c.if3.false)
+    (λ e. refused (c.same-4.ensures.1 e) c.if-same-4.false)

@@ -1,0 +1,17 @@
+-- `text::put_number` meets its contract: what `put` writes is the numeral that `spell` leaves at the end of the local text. Assumes nothing.
+use mathlib.Core.Path.{sym, subst}
+use mathlib.Core.List.{List}
+use Prim.Native.Nat.{ℕ, ◌-◌}
+use native.Mathlib.Omega.{arith}
+use lib.ListN.{take, drop, length-drop}
+use lib.Seq.{take_all}
+use Rattle.text.specs.Numeral.{Numeral}
+use Rattle.text.proofs.put_number.Goals as goal
+
+pub returns : goal.returns
+returns c =
+    record {
+      numeral = take (20 - c.spell.result) (drop c.spell.result c.spell.new.1.0);
+      right = subst (λ (t : List ℕ). Numeral t at_spell.before.before.before.args.n) (sym (take_all (20 - c.spell.result) (drop c.spell.result c.spell.new.1.0) (simp length-drop (omega arith)))) c.spell.ensures.1;
+      written = c.put.ensures;
+    }
