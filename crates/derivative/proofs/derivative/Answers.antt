@@ -83,11 +83,11 @@ returns-then-not-judge c =
     let l : leb c.args.n c.args.s ≡ false = lt-leb _ _ c.if-n-s.false in
     let t : eqb (length c.args.table.now) (count Allowed c.args.n c.args.k) ≡ true = eq-eqb _ _ (c.if-have-want.false ∙ c.size-want.ensures) in
     let o : ltb (length c.args.out.now) (count Allowed c.args.n (c.args.k - 1)) ≡ false = subst (λ (x : ℕ). ltb (length c.args.out.now) x ≡ false) c.size-m.ensures (le-ltb _ _ c.if-out-m.false) in
-    let j : all_inside (entry_at (c.args.k - 1) c.args.s c.args.table.now) (count Allowed c.args.n (c.args.k - 1)) ≡ false = ap (all_inside (entry_at (c.args.k - 1) c.args.s c.args.table.now)) (sym c.size-m.ensures) ∙ sym c.judge.ensures ∙ not-true _ c.if-not-judge.true in
+    let j : all_inside (entry_at (c.args.k - 1) c.args.s c.args.table.now) (count Allowed c.args.n (c.args.k - 1)) ≡ false = ap (all_inside (entry_at (c.args.k - 1) c.args.s c.args.table.now)) (sym c.size-m.ensures) ∙ sym c.judge.ensures ∙ c.if-not-judge.true in
     simp (k, w, z, l, t, o, j) (refl, refl)
 
 pub write-requires : goal.write-requires
-write-requires c = (can_derive c.args.n c.args.k c.args.s c.size-m.result c.args.table.now (narrow c.args.n c.args.k (omega (arith, c.if-k-gt64.false)) (omega (arith, c.if-k-eq0.false)) (sym c.too_wide.ensures ∙ c.if-too_wide.false)) (omega (arith, c.if-k-eq0.false)) (omega (arith, c.if-n-s.false)) (c.if-have-want.false ∙ c.size-want.ensures) c.size-m.ensures, sym c.judge.ensures ∙ not-false _ c.if-not-judge.false, c.if-out-m.false)
+write-requires c = (can_derive c.args.n c.args.k c.args.s c.size-m.result c.args.table.now (narrow c.args.n c.args.k (omega (arith, c.if-k-gt64.false)) (omega (arith, c.if-k-eq0.false)) (sym c.too_wide.ensures ∙ c.if-too_wide.false)) (omega (arith, c.if-k-eq0.false)) (omega (arith, c.if-n-s.false)) (c.if-have-want.false ∙ c.size-want.ensures) c.size-m.ensures, sym c.judge.ensures ∙ c.if-not-judge.false, c.if-out-m.false)
 
 pub returns : goal.returns
 returns c =
@@ -97,7 +97,7 @@ returns c =
     let l : leb c.args.n c.args.s ≡ false = lt-leb _ _ c.if-n-s.false in
     let t : eqb (length c.args.table.now) (count Allowed c.args.n c.args.k) ≡ true = eq-eqb _ _ (c.if-have-want.false ∙ c.size-want.ensures) in
     let o : ltb (length c.args.out.now) (count Allowed c.args.n (c.args.k - 1)) ≡ false = subst (λ (x : ℕ). ltb (length c.args.out.now) x ≡ false) c.size-m.ensures (le-ltb _ _ c.if-out-m.false) in
-    let j : all_inside (entry_at (c.args.k - 1) c.args.s c.args.table.now) (count Allowed c.args.n (c.args.k - 1)) ≡ true = ap (all_inside (entry_at (c.args.k - 1) c.args.s c.args.table.now)) (sym c.size-m.ensures) ∙ sym c.judge.ensures ∙ not-false _ c.if-not-judge.false in
+    let j : all_inside (entry_at (c.args.k - 1) c.args.s c.args.table.now) (count Allowed c.args.n (c.args.k - 1)) ≡ true = ap (all_inside (entry_at (c.args.k - 1) c.args.s c.args.table.now)) (sym c.size-m.ensures) ∙ sym c.judge.ensures ∙ c.if-not-judge.false in
     let e = entries_long (entry_at (c.args.k - 1) c.args.s c.args.table.now) (count Allowed c.args.n (c.args.k - 1)) in
     simp (k, w, z, l, t, o, j) (
       ap gives (c.size-m.ensures ∙ sym e),

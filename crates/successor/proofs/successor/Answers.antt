@@ -13,7 +13,7 @@ room : (c : Else-carried-eq0) → Room 64 c.args.a (count_trailing_zeros 64 c.ar
 room c = (carry c.After-wrapping_add_u64-carried).more (omega arith)
 
 pub returns-then-carried-eq0 : goal.returns-then-carried-eq0
-returns-then-carried-eq0 c = sym ((carry (goal.at.returns-then-carried-eq0 (goal.at.returns-then-carried-eq0 c).Then-carried-eq0).After-wrapping_add_u64-carried).last (omega arith))
+returns-then-carried-eq0 c = sym ((carry (goal.at.returns-then-carried-eq0 c).After-wrapping_add_u64-carried).last (omega arith))
 
 pub overflow_cast-result : goal.overflow_cast-result
 overflow_cast-result c = omega (arith, room (goal.at.overflow_cast-result c).Else-carried-eq0)

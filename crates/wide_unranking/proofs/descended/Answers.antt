@@ -38,7 +38,7 @@ pub overflow_add-high : goal.overflow_add-high
 overflow_add-high c = record { fits = high_fits 64 64 _ _ _ _ _ _ (after (goal.at.overflow_add-high c).Then-c-left) }
 
 pub overflow_sub-i : goal.overflow_sub-i
-overflow_sub-i c = has-place _ _ _ _ _ _ _ _ _ c.loop-s.invariant (weight (goal.at.overflow_sub-i (goal.at.overflow_sub-i c).Then-c-left).After-at-c) c.if-c-left.true
+overflow_sub-i c = has-place _ _ _ _ _ _ _ _ _ c.loop-s.invariant (weight (goal.at.overflow_sub-i c).After-at-c) c.if-c-left.true
 
 pub loop-s-smaller-then-c-left : goal.loop-s-smaller-then-c-left
 loop-s-smaller-then-c-left c = omega arith
@@ -50,7 +50,7 @@ pub loop-s-smaller : goal.loop-s-smaller
 loop-s-smaller c = omega arith
 
 pub loop-s-preserved : goal.loop-s-preserved
-loop-s-preserved c = above_passed _ _ _ _ _ _ _ _ _ (omega arith) c.loop-s.invariant (weight (goal.at.loop-s-preserved (goal.at.loop-s-preserved c).Else-c-left).After-at-c) (omega arith)
+loop-s-preserved c = above_passed _ _ _ _ _ _ _ _ _ (omega arith) c.loop-s.invariant (weight (goal.at.loop-s-preserved c).After-at-c) (omega arith)
 
 pub word-low-requires : goal.word-low-requires
 word-low-requires c = (omega arith, low_fits _ _ _ _ _ _ _ _ (omega arith) c.loop-s.invariant)
