@@ -7,4 +7,4 @@ use Rattle.boundary.proofs.number.Goals as goal
 
 -- src/lib.rt:81:1
 pub returns-in-Refused : goal.returns-in-Refused
-returns-in-Refused c = simp (c.in-Refused.is, c.refused.ensures) (refl, refl)
+returns-in-Refused c = simp (c.in-Refused.is, c.refused.ensures) record { back = refl; holds = refl }

@@ -7,4 +7,4 @@ use Rattle.capi.proofs.batches.ranked.Goals as goal
 
 -- src/batches.rt:11:1
 pub returns-in-Refused : goal.returns-in-Refused
-returns-in-Refused c = simp (c.in-Refused.is, c.number-number.ensures) (refl, refl)
+returns-in-Refused c = simp (c.in-Refused.is, c.number-number.ensures) record { back = refl; holds = refl }

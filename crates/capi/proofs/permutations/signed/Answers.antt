@@ -7,4 +7,4 @@ use Rattle.boundary.proofs.refused.Reads as refused-reads
 use Rattle.capi.proofs.permutations.signed.Goals as goal
 
 pub returns-in-Refused : goal.returns-in-Refused
-returns-in-Refused c = simp (c.in-Refused.is, c.refused.ensures) (refl, refl)
+returns-in-Refused c = simp (c.in-Refused.is, c.refused.ensures) record { back = refl; holds = refl }
