@@ -14,7 +14,7 @@ loop-q-init c =
     record {
       within = omega arith;
       written = written_none c.args.back c.shifted_alphabet-a.result c.args.k c.args.c c.args.from.now c.args.out.now c.requires.lent;
-      walks = walks_first c.shifted_alphabet-a.result c.args.k c.args.c c.low_mask-bits.result c.wrapping_sub_u64-later.result (c.requires.size ∙ ap (λ (x : ℕ). choose x c.args.k) (sym c.shifted_alphabet-a.ensures)) c.requires.degree c.low_mask-bits.ensures (search rules) c.wrapping_sub_u64-later.ensures;
+      walks = walks_first c.shifted_alphabet-a.result c.args.k c.args.c c.low_mask-bits.result c.wrapping_sub_u64-later.result (c.requires.size ∙ ap (λ (x : ℕ). choose x c.args.k) (sym c.shifted_alphabet-a.ensures)) c.requires.degree c.low_mask-bits.ensures (search rules) c.wrapping_sub_u64-later.ensures.value;
     }
 
 pub place_in-requires : goal.place_in-requires

@@ -16,7 +16,7 @@ weight c = held_exactly _ _ _ c.at-c.ensures (next_held _ _ (omega arith) c.loop
 -- where it is taken
 after : (c : Then-c-left) → Above 64 128 c.args.k c.args.r (c.loop-s.s - 1) (c.loop-s.i - 1) (c.loop-s.left - c.at-c.result) (c.loop-s.high + 1 * 2 ^ (c.loop-s.s - 1 - 64) % 2 ^ 64)
 after c =
-    above_taken _ _ _ _ _ _ _ _ _ _ (omega arith) (has-place _ _ _ _ _ _ _ _ _ c.loop-s.invariant (weight c.After-at-c) c.if-c-left.true) c.loop-s.invariant (weight c.After-at-c) c.if-c-left.true
+    above_taken _ _ _ _ _ _ _ _ _ _ (omega arith) (has-place _ _ _ _ _ _ _ _ _ c.loop-s.invariant (weight c.before) c.if-c-left.true) c.loop-s.invariant (weight c.before) c.if-c-left.true
     (one_shl 64 _ (omega (arith, c.loop-s.invariant.walk.low)))
 
 pub loop-s-init : goal.loop-s-init
