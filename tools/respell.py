@@ -65,7 +65,7 @@ def own(paths):
 
 
 def snake(word):
-    return re.sub(r"(?<=[a-z0-9])([A-Z])", lambda m: "_" + m.group(1).lower(), word)
+    return re.sub(r"(?<=[a-z0-9A-Z])([A-Z])", lambda m: "_" + m.group(1).lower(), word)
 
 
 def renamed(name, names):
