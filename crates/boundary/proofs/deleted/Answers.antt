@@ -8,8 +8,8 @@ use Rattle.boundary.proofs.deleted.Goals as goal
 
 -- src/lib.rt:129:1
 pub returns-in-At : goal.returns-in-At
-returns-in-At c = simp (c.in-At.is, c.is_minus.ensures, c.answer.ensures) (refl, (refl, (refl, (refl, refl))))
+returns-in-At c = simp (c.in-At.is, c.is_minus.ensures, c.answer.ensures) record { back = refl; sign = refl; symbol = refl; alphabet = refl; bits = refl }
 
 -- src/lib.rt:129:1
 pub returns-in-Refused : goal.returns-in-Refused
-returns-in-Refused c = simp (c.in-Refused.is, c.refused.ensures) (refl, (refl, (refl, (refl, refl))))
+returns-in-Refused c = simp (c.in-Refused.is, c.refused.ensures) record { back = refl; sign = refl; symbol = refl; alphabet = refl; bits = refl }

@@ -7,8 +7,8 @@ use Rattle.boundary.proofs.indexed.Goals as goal
 
 -- src/lib.rt:95:1
 pub returns-in-At : goal.returns-in-At
-returns-in-At c = simp (c.in-At.is, c.answer.ensures) (refl, (refl, refl))
+returns-in-At c = simp (c.in-At.is, c.answer.ensures) record { back = refl; alphabet = refl; bits = refl }
 
 -- src/lib.rt:95:1
 pub returns-in-Refused : goal.returns-in-Refused
-returns-in-Refused c = simp (c.in-Refused.is, c.refused.ensures) (refl, (refl, refl))
+returns-in-Refused c = simp (c.in-Refused.is, c.refused.ensures) record { back = refl; alphabet = refl; bits = refl }

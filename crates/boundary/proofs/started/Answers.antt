@@ -10,8 +10,8 @@ use Rattle.boundary.proofs.started.Goals as goal
 
 -- src/lib.rt:197:1
 pub returns-in-Walk : goal.returns-in-Walk
-returns-in-Walk c = simp (c.in-Walk.is, c.is_standing.ensures, c.alphabet_there.ensures, c.bits_there.ensures, c.answer.ensures) (refl, (refl, (refl, (refl, refl))))
+returns-in-Walk c = simp (c.in-Walk.is, c.is_standing.ensures, c.alphabet_there.ensures, c.bits_there.ensures, c.answer.ensures) record { back = refl; standing = refl; over = refl; at = refl; remaining = refl }
 
 -- src/lib.rt:197:1
 pub returns-in-Refused : goal.returns-in-Refused
-returns-in-Refused c = simp (c.in-Refused.is, c.refused.ensures) (refl, (refl, (refl, (refl, refl))))
+returns-in-Refused c = simp (c.in-Refused.is, c.refused.ensures) record { back = refl; standing = refl; over = refl; at = refl; remaining = refl }

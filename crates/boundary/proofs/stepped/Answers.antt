@@ -10,8 +10,8 @@ use Rattle.boundary.proofs.stepped.Goals as goal
 
 -- src/lib.rt:224:1
 pub returns-in-Step : goal.returns-in-Step
-returns-in-Step c = simp (c.in-Step.is, c.is_standing.ensures, c.alphabet_there.ensures, c.bits_there.ensures, c.answer.ensures) (refl, (refl, (refl, (refl, (refl, (refl, refl))))))
+returns-in-Step c = simp (c.in-Step.is, c.is_standing.ensures, c.alphabet_there.ensures, c.bits_there.ensures, c.answer.ensures) record { back = refl; standing = refl; over = refl; at = refl; remaining = refl; alphabet = refl; bits = refl }
 
 -- src/lib.rt:224:1
 pub returns-in-Refused : goal.returns-in-Refused
-returns-in-Refused c = simp (c.in-Refused.is, c.refused.ensures) (refl, (refl, (refl, (refl, (refl, (refl, refl))))))
+returns-in-Refused c = simp (c.in-Refused.is, c.refused.ensures) record { back = refl; standing = refl; over = refl; at = refl; remaining = refl; alphabet = refl; bits = refl }

@@ -14,4 +14,4 @@ returns-in_default c =
 pub returns : goal.returns
 returns c =
     let u = unrank_by_index c.args.family c.args.n c.args.k c.args.r (length c.args.out.now) ∙ ap (λ s. and_then s (λ x. unpack_says x (length c.args.out.now))) (sym c.unrank_over-a.ensures ∙ ap indexed_says c.in-At.is) in
-    record { says = c.unpack.ensures.0 ∙ sym (ap places_of u); holds = c.unpack.ensures.1 ∙ sym (ap (λ s. after s c.args.out.now) u) }
+    record { says = c.unpack.ensures.says ∙ sym (ap places_of u); holds = c.unpack.ensures.holds ∙ sym (ap (λ s. after s c.args.out.now) u) }

@@ -7,8 +7,8 @@ use Rattle.capi.proofs.digit_words.deleted.Goals as goal
 
 -- src/digit_words.rt:31:1
 pub returns-in-At : goal.returns-in-At
-returns-in-At c = simp (c.in-At.is, c.answer.ensures) (refl, (refl, refl))
+returns-in-At c = simp (c.in-At.is, c.answer.ensures) record { back = refl; symbol = refl; rest = refl }
 
 -- src/digit_words.rt:31:1
 pub returns-in-Refused : goal.returns-in-Refused
-returns-in-Refused c = simp (c.in-Refused.is, c.refused.ensures) (refl, (refl, refl))
+returns-in-Refused c = simp (c.in-Refused.is, c.refused.ensures) record { back = refl; symbol = refl; rest = refl }

@@ -7,4 +7,4 @@ use Rattle.capi.proofs.digit_words.gudrenoss_digits_symbols.Goals as goal
 
 -- src/digit_words.rt:72:1
 pub returns : goal.returns
-returns c = simp (sym c.symbols.ensures.0) (c.number.ensures.0, (c.number.ensures.1, c.symbols.ensures.1))
+returns c = simp (sym c.symbols.ensures.says) record { back = c.number.ensures.back; written = c.number.ensures.holds; holds = c.symbols.ensures.holds }

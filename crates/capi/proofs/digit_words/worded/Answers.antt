@@ -7,8 +7,8 @@ use Rattle.capi.proofs.digit_words.worded.Goals as goal
 
 -- src/digit_words.rt:15:1
 pub returns-in-Is : goal.returns-in-Is
-returns-in-Is c = simp (c.in-Is.is, c.answer.ensures) (refl, (refl, refl))
+returns-in-Is c = simp (c.in-Is.is, c.answer.ensures) record { back = refl; degree = refl; rank = refl }
 
 -- src/digit_words.rt:15:1
 pub returns-in-Refused : goal.returns-in-Refused
-returns-in-Refused c = simp (c.in-Refused.is, c.refused.ensures) (refl, (refl, refl))
+returns-in-Refused c = simp (c.in-Refused.is, c.refused.ensures) record { back = refl; degree = refl; rank = refl }

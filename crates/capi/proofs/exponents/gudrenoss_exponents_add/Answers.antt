@@ -7,4 +7,4 @@ use Rattle.capi.proofs.exponents.gudrenoss_exponents_add.Goals as goal
 
 -- src/exponents.rt:67:1
 pub returns : goal.returns
-returns c = simp (sym c.add.ensures.0) (c.number.ensures.0, (c.number.ensures.1, c.add.ensures.1))
+returns c = simp (sym c.add.ensures.says) record { back = c.number.ensures.back; written = c.number.ensures.holds; holds = c.add.ensures.holds }

@@ -7,4 +7,4 @@ use Rattle.capi.proofs.exponents.gudrenoss_exponents_word.Goals as goal
 
 -- src/exponents.rt:11:1
 pub returns : goal.returns
-returns c = simp (sym c.word.ensures.0) (c.number.ensures.0, (c.number.ensures.1, c.word.ensures.1))
+returns c = simp (sym c.word.ensures.says) record { back = c.number.ensures.back; written = c.number.ensures.holds; holds = c.word.ensures.holds }

@@ -7,4 +7,4 @@ use Rattle.capi.proofs.shapes.gudrenoss_shape_delinearize.Goals as goal
 
 -- src/shapes.rt:49:1
 pub returns : goal.returns
-returns c = simp (sym c.delinearize.ensures.0) (c.number.ensures.0, (c.number.ensures.1, c.delinearize.ensures.1))
+returns c = simp (sym c.delinearize.ensures.says) record { back = c.number.ensures.back; written = c.number.ensures.holds; holds = c.delinearize.ensures.holds }

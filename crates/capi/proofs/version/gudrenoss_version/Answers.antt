@@ -6,4 +6,4 @@ use Rattle.capi.proofs.version.gudrenoss_version.Goals as goal
 
 -- src/version.rt:8:1
 pub returns : goal.returns
-returns c = (c.answer.ensures, (refl, (refl, refl)))
+returns c = record { back = c.answer.ensures; major = refl; minor = refl; patch = refl }
