@@ -22,12 +22,12 @@ returns-then-out-n c =
     simp (f.fits, f.low, lt-ltb _ _ c.if-out-n.true) record { says = refl; holds = refl }
 
 pub slice_bounds-tally-end : goal.slice_bounds-tally-end
-slice_bounds-tally-end c = (found c.before.before.before.before.before.before.before.before.before.args.n c.before.before.before.before.before.before.before.before.before.args.k c.before.before.before.before.before.before.before.before.before.args.r _ _ _ (sym (ap answer_says c.a.given.1) ∙ c.unrank.ensures.says) c.unrank.ensures.holds).within
+slice_bounds-tally-end c = (found c.args.n c.args.k c.args.r _ _ _ (sym (ap answer_says c.in-Is.is) ∙ c.unrank-a.ensures.says) c.unrank-a.ensures.holds).within
 
 pub tally-requires : goal.tally-requires
-tally-requires c = (c.if1.false, (found c.before.before.before.before.before.before.before.before.before.before.before.args.n c.before.before.before.before.before.before.before.before.before.before.before.args.k c.before.before.before.before.before.before.before.before.before.before.before.args.r _ _ _ (sym (ap answer_says c.a.given.1) ∙ c.unrank.ensures.says) c.unrank.ensures.holds).below)
+tally-requires c = (c.if-out-n.false, (found c.args.n c.args.k c.args.r _ _ _ (sym (ap answer_says c.in-Is.is) ∙ c.unrank-a.ensures.says) c.unrank-a.ensures.holds).below)
 
 pub returns : goal.returns
 returns c =
-    let f : Found c.before.before.before.before.before.before.before.before.before.before.before.before.before.before.args.n c.before.before.before.before.before.before.before.before.before.before.before.before.before.before.args.k c.before.before.before.before.before.before.before.before.before.before.before.before.before.before.args.r _ _ = found c.before.before.before.before.before.before.before.before.before.before.before.before.before.before.args.n c.before.before.before.before.before.before.before.before.before.before.before.before.before.before.args.k c.before.before.before.before.before.before.before.before.before.before.before.before.before.before.args.r _ _ _ (sym (ap answer_says c.a.given.1) ∙ c.unrank.ensures.says) c.unrank.ensures.holds in
-    simp (f.fits, f.low, le-ltb _ _ c.if1.false) record { says = ap gives (sym (tally_long c.before.before.before.before.before.before.before.before.before.before.before.before.before.before.args.n (unrank_of Allowed c.before.before.before.before.before.before.before.before.before.before.before.before.before.before.args.k c.before.before.before.before.before.before.before.before.before.before.before.before.before.before.args.r))); holds = c.tally.ensures ∙ ap (λ w. after (gives (tally c.before.before.before.before.before.before.before.before.before.before.before.before.before.before.args.n w)) c.before.before.before.before.before.before.before.before.before.before.before.before.before.before.args.out.now) f.word }
+    let f : Found c.args.n c.args.k c.args.r _ _ = found c.args.n c.args.k c.args.r _ _ _ (sym (ap answer_says c.in-Is.is) ∙ c.unrank-a.ensures.says) c.unrank-a.ensures.holds in
+    simp (f.fits, f.low, le-ltb _ _ c.if-out-n.false) record { says = ap gives (sym (tally_long c.args.n (unrank_of Allowed c.args.k c.args.r))); holds = c.tally.ensures ∙ ap (λ w. after (gives (tally c.args.n w)) c.args.out.now) f.word }

@@ -9,9 +9,6 @@ use Rattle.words.specs.Pick.{pick}
 use lib.ListN.{get_or, drop}
 use Rattle.packing.specs.Checks.{steps, break_from, break_at}
 use Rattle.packing.proofs.Checks.{break_turn, break_end}
-use Rattle.packing.proofs.break_at.Reads as reads
-use Rattle.packing.proofs.break_at.Lts as lts
-use Rattle.packing.proofs.may_follow.Reads as may-follow-reads
 use Rattle.packing.proofs.break_at.Goals as goal
 
 pub loop-i-init : goal.loop-i-init

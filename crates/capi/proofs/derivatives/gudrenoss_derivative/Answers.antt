@@ -1,8 +1,4 @@
 use mathlib.Core.Path.{sym}
-use Rattle.capi.proofs.derivatives.gudrenoss_derivative.Reads as reads
-use Rattle.capi.proofs.derivatives.gudrenoss_derivative.Lts as lts
-use Rattle.boundary.proofs.number.Reads as number-reads
-use Rattle.derivative.proofs.derivative.Reads as derivative-reads
 use Rattle.capi.proofs.derivatives.gudrenoss_derivative.Goals as goal
 
 pub returns : goal.returns

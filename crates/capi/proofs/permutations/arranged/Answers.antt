@@ -1,8 +1,4 @@
 use mathlib.Core.Path.{refl}
-use Rattle.capi.proofs.permutations.arranged.Reads as reads
-use Rattle.capi.proofs.permutations.arranged.Lts as lts
-use Rattle.boundary.proofs.answer.Reads as answer-reads
-use Rattle.boundary.proofs.refused.Reads as refused-reads
 use Rattle.capi.proofs.permutations.arranged.Goals as goal
 
 pub returns-in-Given : goal.returns-in-Given
