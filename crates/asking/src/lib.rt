@@ -275,5 +275,12 @@ pub fn run(rt: &(impl Input + Print)) -> io::Result<()> {
     let mut bytes = [0u8; 131072];
     let mut written = [0u8; 131072];
     let mut out = [0u8; 327680];
-    answer_input(rt, &mut block, &mut line, &mut bytes, &mut written, &mut out)
+    answer_input(
+        rt,
+        &mut block,
+        &mut line,
+        &mut bytes,
+        &mut written,
+        &mut out,
+    )
 }

@@ -442,12 +442,7 @@ fn answer(rt: &(impl Input + Env), out: &mut [u8], arguments: usize) -> io::Resu
 }
 
 // Writes what is told, on standard output or on the stream for what is wrong, and answers the status that says which.
-fn tell(
-    rt: &impl Print,
-    errors: &impl Print,
-    out: &[u8],
-    told: Told,
-) -> io::Result<ExitCode> {
+fn tell(rt: &impl Print, errors: &impl Print, out: &[u8], told: Told) -> io::Result<ExitCode> {
     let end = told.end;
     if end > out.len() {
         return Ok(ExitCode::FAILURE);

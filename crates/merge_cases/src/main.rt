@@ -50,12 +50,7 @@ fn main(rt: HostRuntime) -> io::Result<()> {
         1728,
     )?;
     line(&rt, "wide sets: ", Space::Wide(false), 12000)?;
-    line(
-        &rt,
-        "wide words with repeats: ",
-        Space::Wide(true),
-        12000,
-    )
+    line(&rt, "wide words with repeats: ", Space::Wide(true), 12000)
 }
 
 // The line of a space.

@@ -154,13 +154,7 @@ fn put_header(out: &mut [u8], at: usize, h: Header) -> usize {
 }
 
 // The line of entry r of a body.
-fn put_entry(
-    rt: &impl Print,
-    out: &mut [u8],
-    at: usize,
-    body: &[u8],
-    r: u64,
-) -> io::Result<usize> {
+fn put_entry(rt: &impl Print, out: &mut [u8], at: usize, body: &[u8], r: u64) -> io::Result<usize> {
     if r >= 8192 {
         return Ok(at);
     }

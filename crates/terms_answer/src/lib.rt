@@ -48,13 +48,7 @@ pub fn put_symbols(out: &mut [u8], at: usize, word: &[u64], k: u64) -> usize {
 }
 
 // The line of one word: its rank, a colon, and its symbols. One of 64 symbols takes fewer than 512 bytes.
-fn put_word(
-    rt: &impl Print,
-    out: &mut [u8],
-    at: usize,
-    r: u64,
-    x: Index,
-) -> io::Result<usize> {
+fn put_word(rt: &impl Print, out: &mut [u8], at: usize, r: u64, x: Index) -> io::Result<usize> {
     let mut word = [0u64; 64];
     let Answer::Is(k) = monotone::unpack(x, &mut word) else {
         return Ok(at);
@@ -89,13 +83,7 @@ fn put_words(
 }
 
 // The words of a family, if there are 4,096 or fewer, after the header.
-fn put_terms(
-    rt: &impl Print,
-    out: &mut [u8],
-    f: Family,
-    n: u64,
-    k: u64,
-) -> io::Result<usize> {
+fn put_terms(rt: &impl Print, out: &mut [u8], f: Family, n: u64, k: u64) -> io::Result<usize> {
     match monotone_count::count(f, n, k) {
         Answer::Is(count) => {
             let at = put_header(out, 0, f, n, k, count);

@@ -23,12 +23,12 @@ returns c =
     let left : ℕ = c.loop-i.left in
     let i : ℕ = c.loop-i.i in
     let same : get_or (set_bits left) 0 64 ≡ get_or (set_bits left) (p - i) 64 =
-      elim c.loop-i-test.branch [
-        then-loop-i-test+else-left-ne0 w ↦
+    elim c.loop-i-test.branch [
+      | then-loop-i-test+else-left-ne0 w ↦
           let z : left ≡ 0 = omega arith in
           ap (λ (b : ℕ). get_or (set_bits b) 0 64) z ∙ sym (ap (λ (b : ℕ). get_or (set_bits b) (p - i) 64) z)
       | else-loop-i-test w ↦ ap (λ (k : ℕ). get_or (set_bits left) k 64) (omega arith)
-      ] in
+    ] in
     c.lowest.ensures ∙ same
     ∙ ap (λ (w : List ℕ). get_or w (p - i) 64) c.loop-i.invariant.1 ∙ get_or-drop i (set_bits a) (p - i) 64
     ∙ ap (λ (k : ℕ). get_or (set_bits a) k 64) (omega arith)

@@ -40,8 +40,8 @@ pub loop-i-preserved : goal.loop-i-preserved
 loop-i-preserved c =
     summing_turn c.args.radices.now c.args.axes (answer_says c.loop-i.sum) (answer_says c.loop-i.stride) (answer_says c.if-left-eq1.sum) (answer_says c.times-stride.result) c.loop-i.left c.loop-i.i c.loop-i.invariant (omega arith)
     (λ m e. elim c.if-left-eq1.branch [
-      then-left-eq1 w ↦ ap answer_says w.sum-is ∙ w.plus-sum.ensures m (stride c.args.radices.now c.loop-i.i) e c.loop-i.invariant.grown ∙ axis_chosen c.loop-i.left m (stride c.args.radices.now c.loop-i.i) w.if-left-eq1.true
-    | else-left-eq1 w ↦ ap answer_says w.sum-is ∙ e ∙ axis_left_out c.loop-i.left m (stride c.args.radices.now c.loop-i.i) w.if-left-eq1.false
+      | then-left-eq1 w ↦ ap answer_says w.sum-is ∙ w.plus-sum.ensures m (stride c.args.radices.now c.loop-i.i) e c.loop-i.invariant.grown ∙ axis_chosen c.loop-i.left m (stride c.args.radices.now c.loop-i.i) w.if-left-eq1.true
+      | else-left-eq1 w ↦ ap answer_says w.sum-is ∙ e ∙ axis_left_out c.loop-i.left m (stride c.args.radices.now c.loop-i.i) w.if-left-eq1.false
     ])
     c.times-stride.ensures
 

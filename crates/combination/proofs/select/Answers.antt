@@ -28,9 +28,9 @@ loop-wanted-smaller c = rest-shorter c.loop-wanted.invariant c.without_lowest-re
 
 pub loop-wanted-preserved : goal.loop-wanted-preserved
 loop-wanted-preserved c = elim c.if-wanted-eq1.branch [
-      then-wanted-eq1 w ↦ subst (Selecting _ _ _ _) (sym w.chosen-is) (selecting-turn c.loop-wanted.invariant c.without_lowest-rest.result (omega arith) c.without_lowest-rest.ensures w.if-wanted-eq1.true)
-    | else-wanted-eq1 w ↦ subst (Selecting _ _ _ _) (sym w.chosen-is) (selecting-skips c.loop-wanted.invariant c.without_lowest-rest.result (omega arith) c.without_lowest-rest.ensures w.if-wanted-eq1.false)
-    ]
+  | then-wanted-eq1 w ↦ subst (Selecting _ _ _ _) (sym w.chosen-is) (selecting-turn c.loop-wanted.invariant c.without_lowest-rest.result (omega arith) c.without_lowest-rest.ensures w.if-wanted-eq1.true)
+  | else-wanted-eq1 w ↦ subst (Selecting _ _ _ _) (sym w.chosen-is) (selecting-skips c.loop-wanted.invariant c.without_lowest-rest.result (omega arith) c.without_lowest-rest.ensures w.if-wanted-eq1.false)
+]
 
 pub returns : goal.returns
 returns c =

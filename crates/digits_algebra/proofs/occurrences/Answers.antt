@@ -30,13 +30,12 @@ pub loop-i-smaller : goal.loop-i-smaller
 loop-i-smaller c = omega arith
 
 pub loop-i-preserved : goal.loop-i-preserved
-loop-i-preserved c =
-    (
-      omega arith,
-      elim c.if-word-i.branch [ then-word-i w ↦ omega arith | else-word-i w ↦ omega arith ],
-      counted_turn c.args.word.now c.args.s c.loop-i.i c.loop-i.n c.if-word-i.n (omega arith) c.loop-i.invariant.2
-          (elim c.if-word-i.branch [ then-word-i w ↦ inl (w.if-word-i.true, w.n-is) | else-word-i w ↦ inr (w.if-word-i.false, w.n-is) ]),
-    )
+loop-i-preserved c = (
+  omega arith,
+  elim c.if-word-i.branch [ then-word-i w ↦ omega arith | else-word-i w ↦ omega arith ],
+  counted_turn c.args.word.now c.args.s c.loop-i.i c.loop-i.n c.if-word-i.n (omega arith) c.loop-i.invariant.2
+      (elim c.if-word-i.branch [ then-word-i w ↦ inl (w.if-word-i.true, w.n-is) | else-word-i w ↦ inr (w.if-word-i.false, w.n-is) ]),
+)
 
 pub returns : goal.returns
 returns c =

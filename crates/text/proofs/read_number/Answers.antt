@@ -70,14 +70,13 @@ pub loop-i-smaller : goal.loop-i-smaller
 loop-i-smaller c = omega arith
 
 pub loop-i-preserved : goal.loop-i-preserved
-loop-i-preserved c =
-    (
-      omega arith,
-      omega arith,
-      c.loop-i.invariant.2,
-      below_more (λ k. IsDigit (get_or c.args.word.now k 0)) _ c.loop-i.invariant.3 (omega arith, omega arith),
-      read_on c.args.word.now _ _ _ (omega arith) c.wide-d.ensures ∙ c.loop-i.invariant.4,
-    )
+loop-i-preserved c = (
+  omega arith,
+  omega arith,
+  c.loop-i.invariant.2,
+  below_more (λ k. IsDigit (get_or c.args.word.now k 0)) _ c.loop-i.invariant.3 (omega arith, omega arith),
+  read_on c.args.word.now _ _ _ (omega arith) c.wide-d.ensures ∙ c.loop-i.invariant.4,
+)
 
 pub returns : goal.returns
 returns c =
