@@ -16,6 +16,3 @@ bounds-table-q c = c.requires.0
 
 pub fits-requires : goal.fits-requires
 fits-requires c = (c.requires.1, c.requires.2)
-
-pub returns : goal.returns
-returns c = ?

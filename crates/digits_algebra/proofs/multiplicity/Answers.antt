@@ -1,6 +1,7 @@
 -- `digits_algebra::multiplicity` meets its contract: the symbols are written into a buffer and counted. Assumes nothing.
 use mathlib.Core.Path.{sym, ap, ◌∙◌}
 use Rattle.answers.specs.Says.{gives, answer_says}
+use Rattle.words.specs.Inversions.{multiplicity as multiplicity_of}
 use Rattle.digits.specs.Rules.{symbols_of}
 use Rattle.digits.proofs.Rules.{given_passed, given_refused}
 use Rattle.digits_algebra.proofs.Buffer.{unspelt, spelt}

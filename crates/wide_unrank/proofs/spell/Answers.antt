@@ -28,7 +28,7 @@ place : (c : After-shift)
     → Place c.args.family (whole c.args.set) (whole c.loop-family.left) c.loop-family.i c.lowest.result c.shift.result
 place c =
     let left : ℕ = whole c.loop-family.left in
-    let n : whole c.loop-family.left ≡ 0 → ⊥ = eqb-false left 0 (sym c.is_empty.ensures ∙ not-true _ c.loop-family-test.true) in
+    let n : whole c.loop-family.left ≡ 0 → ⊥ = eqb-false left 0 (sym c.is_empty.ensures ∙ c.loop-family-test.true) in
     next_place c.args.family (whole c.args.set) left c.loop-family.i c.lowest.result c.shift.result c.loop-family.invariant.set (positive left n)
     (c.lowest.ensures ∙ get_d_any (set_bits left) 0 128 64 (some left n)) c.shift.ensures
 
@@ -59,4 +59,4 @@ shape_of-out c = c.loop-family.invariant.filled.long
 
 pub returns : goal.returns
 returns c =
-    spelling_ends c.args.family (whole c.args.set) c.args.out.now c.loop-family.out (whole c.loop-family.left) c.loop-family.i c.loop-family.invariant (eqb-true _ 0 (sym c.is_empty.ensures ∙ not-false _ c.loop-family-test.false)) c.requires
+    spelling_ends c.args.family (whole c.args.set) c.args.out.now c.loop-family.out (whole c.loop-family.left) c.loop-family.i c.loop-family.invariant (eqb-true _ 0 (sym c.is_empty.ensures ∙ c.loop-family-test.false)) c.requires
