@@ -6,7 +6,7 @@ and how many instructions that only trap are in it and in those.
 
 The depth is a bound, not a reading: each function's frame (what it pushes and takes off the stack pointer), the return address of each call,
 and the deepest callee. It refuses to answer, with status 1, where that would not be a bound: an indirect call, a cycle of calls, a stack
-pointer moved by anything but a constant, or a callee outside the archive other than those of the C library that it names.
+pointer moved by anything but a constant or in a loop, or a callee outside the archive other than those of the C library that it names.
 """
 import re
 import subprocess
@@ -71,6 +71,8 @@ def read(archive):
             if not amount:
                 sys.exit(f"measure: {here.name} moves its stack pointer by no constant: {args}")
             moved += int(amount.group(1), 16)
+        elif op == "cmp" and "%rsp" in args:
+            sys.exit(f"measure: {here.name} moves its stack pointer in a loop, as for a frame of many pages: {op} {args}")
         elif args.endswith(",%rsp") and op not in ("add", "cmp", "test", "lea", "mov"):
             sys.exit(f"measure: {here.name} changes its stack pointer: {op} {args}")
         here.frame = max(here.frame, pushed + moved)

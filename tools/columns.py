@@ -13,8 +13,8 @@ def column(k):
     arms = "".join(f"        {n} => {comb(n, k)},\n" for n in range(ROWS + 1))
     return f"""
 pub fn column_{k}(n: u64) -> u64
-    requires {{ ⌜ n ≤ {ROWS} ⌝ }}
-    ensures {{ λ r. ⌜ r ≡ entry n {k} ⌝ }}
+    requires {{ n ≤ {ROWS} }}
+    ensures {{ result ≡ entry n {k} }}
 {{
     match n {{
 {arms}        _ => pascal::recurrence(n, {k}),
@@ -26,9 +26,10 @@ pub fn column_{k}(n: u64) -> u64
 def crate(name, first, last):
     text = f"""// Columns {first} to {last} of Pascal's triangle (DLMF 26.3), row n of column k holding binomial(n, k). Made by tools/columns.py.
 // Each `match` compiles to one table. A row above {ROWS} has no entry here, and the caller keeps it out, since a test would cost as much as the look-up.
-ghost use mathlib.Core.Path.{{_≡_}};
-ghost use Prim.Native.Nat.{{_≤_}};
-ghost use Rattle·pascal.specs.Row.{{entry}};
+#![tactic(auto)]
+
+ghost use Rattle.std.specs.Prelude.{{◌≡◌, ◌≤◌}};
+ghost use Rattle.pascal.specs.Row.{{entry}};
 """
     with open(f"crates/{name}/src/lib.rt", "w", encoding="utf-8") as f:
         f.write(text + "".join(column(k) for k in range(first, last + 1)))

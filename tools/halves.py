@@ -26,8 +26,8 @@ def half(name, k, first, rows):
     arms = "".join(f"        {n} => {comb(n, k)},\n" for n in range(first, first + rows))
     return f"""
 pub fn {name}_{k}(n: u64) -> u64
-    requires {{ ⌜ n ≤ 64 ⌝ }}
-    ensures {{ λ r. ⌜ r ≡ entry n {k} ⌝ }}
+    requires {{ n ≤ 64 }}
+    ensures {{ result ≡ entry n {k} }}
 {{
     match n {{
 {arms}        _ => {whole(k)}::column_{k}(n),
@@ -40,9 +40,10 @@ def halves(name, first, last):
     text = f"""// Columns {first} to {last} of Pascal's triangle (DLMF 26.3) in two halves, row n of each holding binomial(n, k): `upper_k` has the rows 32 to 63, `lower_k`
 // those of the rows up to 31 that are not 0, and some below them. Made by tools/halves.py. A `match` of so few arms is compiled into its caller, each time
 // with those arms alone that can be met there, and so without a test; the whole columns (crates `columns_low` and `columns_high`) are called.
-ghost use mathlib.Core.Path.{{_≡_}};
-ghost use Prim.Native.Nat.{{_≤_}};
-ghost use Rattle·pascal.specs.Row.{{entry}};
+#![tactic(auto)]
+
+ghost use Rattle.std.specs.Prelude.{{◌≡◌, ◌≤◌}};
+ghost use Rattle.pascal.specs.Row.{{entry}};
 """
     for k in range(first, last + 1):
         text += half("lower", k, lower(k), 32 - lower(k)) + half("upper", k, 32, 32)
@@ -88,7 +89,7 @@ def function(head, requires, ensures, lines):
     body = "".join(f"    {line}\n" for line in lines)
     return f"""
 {head} -> u64
-    requires {{ ⌜ {requires} ⌝ }}
+    requires {{ {requires} }}
     ensures {{ {ensures} }}
 {{
 {body}}}
@@ -114,7 +115,7 @@ def link(upto, cut, k):
         f"{onward}r - c, x)",
     ]
     visible = "fn" if HOME[upto] == "descent" else "pub fn"
-    return function(f"{visible} below_{upto}_{k}(r: u64, a: u64)", f"Sought 64 {k} {upto} r a", f"λ x. ⌜ x ≡ a + value {k} r ⌝", lines)
+    return function(f"{visible} below_{upto}_{k}(r: u64, a: u64)", f"Sought 64 {k} {upto} r a", f"result ≡ a + value {k} r", lines)
 
 
 def begins(k, upto):
@@ -146,7 +147,7 @@ def tree(first, last, indent):
 
 def entry():
     lines = tree(0, LAST, "")
-    return function("pub fn set(k: u64, s: u64, r: u64)", f"(k ≤ {LAST}) × (s ≤ 64) × (r < entry s k)", "λ x. ⌜ x ≡ value k r ⌝", lines)
+    return function("pub fn set(k: u64, s: u64, r: u64)", f"(k ≤ {LAST}) × (s ≤ 64) × (r < entry s k)", "result ≡ value k r", lines)
 
 
 USED = {
@@ -166,13 +167,14 @@ def descent(name):
 // comparison says whether they are below the next cut too, and then that cut's link takes over, for good. Otherwise the highest is one of the rows between
 // the two cuts, at most 16; each comparison halves these, with no branch, and what is left goes to the link for one number fewer.
 // Here are the links below {which}{others}.
-ghost use mathlib.Core.Path.{{_≡_}};
-ghost use Prim.Native.Nat.{{_+_{", _<_, _≤_" if name == "descent" else ""}}};
+#![tactic(auto)]
+
+ghost use Rattle.std.specs.Prelude.{{◌≡◌, ◌+◌{", ◌<◌, ◌≤◌" if name == "descent" else ""}}};
 """
     if name == "descent":
-        text += "ghost use Rattle·pascal.specs.Row.{entry};\n"
-    text += "ghost use Rattle·halving.specs.Search.{value, Sought};\n"
-    text += "".join(f"use halving::{used};\n" for used in USED[name])
+        text += "ghost use Rattle.pascal.specs.Row.{entry};\n"
+    text += "ghost use Rattle.halving.specs.Search.{value, Sought};\n\n"
+    text += f"use halving::{{{', '.join(USED[name])}}};\n"
     for upto, cut in cuts:
         for k in range(2, min(upto, LAST) + 1):
             text += link(upto, cut, k)

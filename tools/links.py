@@ -13,8 +13,8 @@ def link(i):
     onward = f"from_{i + 1}" if i + 1 < LINKS else f"after_{LINKS}"
     return f"""
 {"" if i else "pub "}fn from_{i}(a: u64, sum: u64) -> u64
-    requires {{ ⌜ Weighs {i} a sum ⌝ }}
-    ensures {{ λ r. ⌜ r ≡ sum + weight {i} a ⌝ }}
+    requires {{ Weighs {i} a sum }}
+    ensures {{ result ≡ sum + weight {i} a }}
 {{
     if a == 0 {{
         return nothing(a, {i}, sum);
@@ -30,15 +30,14 @@ if sys.argv[1:]:
     sys.exit(0 if asked else 2)
 text = f"""// What the numbers of a set weigh, from each of the first {LINKS} positions up (document 01, "Terms and their order"). Made by tools/links.py.
 // A link weighs the lowest number by the column of its own position, and hands the rest of the set and the sum so far to the next.
-ghost use mathlib.Core.Path.{{_≡_}};
-ghost use Prim.Native.Nat.{{_+_}};
-ghost use Rattle·links·specs.specs.Weight.{{weight, Weighs}};
+#![tactic(auto)]
+
+ghost use Rattle.std.specs.Prelude.{{◌≡◌, ◌+◌}};
+ghost use Rattle.links.specs.Weight.{{weight, Weighs}};
 
 mod step; // step.rt: the lowest number of a set, and the ends of the chain
 
-use step::after_{LINKS};
-use step::lowest;
-use step::nothing;
+use step::{{after_{LINKS}, lowest, nothing}};
 """
 with open("crates/links/src/lib.rt", "w", encoding="utf-8") as f:
     f.write(text + "".join(link(i) for i in range(LINKS)))

@@ -65,7 +65,7 @@ def own(paths):
 
 
 def snake(word):
-    return re.sub(r"(?<=[a-z0-9])([A-Z])", lambda m: "_" + m.group(1).lower(), word)
+    return re.sub(r"(?<=[a-z0-9A-Z])([A-Z])", lambda m: "_" + m.group(1).lower(), word)
 
 
 def renamed(name, names):
@@ -81,6 +81,9 @@ def table(root):
     paths = antt(root)
     there = library(paths)
     defined = own(paths)
+    for path in paths + sorted(glob.glob(f"{root}/crates/*/src/**/*.rt", recursive=True)):
+        for other in re.findall(r"[{ ,]as ([a-z]\w*[A-Z]\w*)", read(path)):
+            defined[other].add(path)  # another name that a file gives what it imports
     names = {n for n in defined if "-" not in n} | {n for n in there if "-" not in n and "_" not in n}
     # what a lemma is about is a name; what it says of it (is, of, all) is a plain word, also where a definition is called so
     names -= PLAIN

@@ -17,8 +17,8 @@ def part(t):
     arms = "".join(f"        {i} => {CELLS[t * ARMS + i]},\n" for i in range(ARMS))
     return f"""
 pub fn part_{t}(i: u64) -> u64
-    requires {{ ⌜ i < {ARMS} ⌝ }}
-    ensures {{ λ r. ⌜ r ≡ cellOf {t} i ⌝ }}
+    requires {{ i < {ARMS} }}
+    ensures {{ result ≡ cell_of {t} i }}
 {{
     match i {{
 {arms}        _ => triangle::cell({t}, i),
@@ -30,18 +30,18 @@ pub fn part_{t}(i: u64) -> u64
 def crate(name, first):
     last = first + PARTS - 1
     text = f"""// The parts {first} to {last} of the list of cells of Pascal's triangle (crates/triangle), {ARMS} cells each. Made by tools/triangle.py. Each `match` compiles to one table.
-ghost use mathlib.Core.Path.{{_≡_}};
-ghost use Prim.Native.Nat.{{_<_}};
-ghost use Rattle·triangle.specs.Cells.{{cellOf}};
+#![tactic(auto)]
+
+ghost use Rattle.std.specs.Prelude.{{◌≡◌, ◌<◌}};
+ghost use Rattle.triangle.specs.Cells.{{cell_of}};
 """
     with open(f"crates/{name}/src/lib.rt", "w", encoding="utf-8") as f:
         f.write(text + "".join(part(t) for t in range(first, last + 1)))
 
 
 def specs():
-    text = f"""-- The cells of Pascal's triangle, in parts of {ARMS}. Made by tools/triangle.py; `cell-is-entry` says that they are the coefficients. Assumes nothing.
-use mathlib.Core.List.{{List, [], _∷_}}
-use Prim.Native.Nat.{{ℕ}}
+    text = f"""-- The cells of Pascal's triangle, in parts of {ARMS}. Made by tools/triangle.py; `cell_is_entry` says that they are the coefficients. Assumes nothing.
+use Rattle.std.specs.Prelude.{{List, [], ◌∷◌, ℕ}}
 """
     for t in range(2 * PARTS):
         text += f"\nabbrev pub part{t} : List ℕ\npart{t} =\n"

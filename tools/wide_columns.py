@@ -18,8 +18,8 @@ def column(k):
     arms = "".join(f"        {n} => {comb(n, k)},\n" for n in rows(k))
     return f"""
 pub fn column_{k}(n: u64) -> u64
-    requires {{ ⌜ n ≤ {LAST} ⌝ }}
-    ensures {{ λ r. ⌜ r ≡ cappedEntry n {k} ⌝ }}
+    requires {{ n ≤ {LAST} }}
+    ensures {{ result ≡ capped_entry n {k} }}
 {{
     match n {{
 {arms}        _ => wide_pascal::along(n, {k}),
@@ -31,9 +31,10 @@ pub fn column_{k}(n: u64) -> u64
 def crate(name, first, last):
     text = f"""// Columns {first} to {last} of Pascal's triangle (DLMF 26.3), rows {FIRST} to {LAST} as far as an entry is below 2^64, row n of column k holding binomial(n, k). Made by
 // tools/wide_columns.py. Each `match` compiles to one table; another row goes along it. A row above {LAST} is kept out by the caller.
-ghost use mathlib.Core.Path.{{_≡_}};
-ghost use Prim.Native.Nat.{{_≤_}};
-ghost use Rattle·wide_pascal.specs.Capped.{{cappedEntry}};
+#![tactic(auto)]
+
+ghost use Rattle.std.specs.Prelude.{{◌≡◌, ◌≤◌}};
+ghost use Rattle.wide_pascal.specs.Capped.{{capped_entry}};
 """
     with open(f"crates/{name}/src/lib.rt", "w", encoding="utf-8") as f:
         f.write(text + "".join(column(k) for k in range(first, last + 1)))

@@ -1,4 +1,4 @@
-//! Links the archive of the proved library: libgudrenoss.a as `tools/install` puts it, or libcapi.a as `rt staticlib capi` writes it.
+//! Links the archive of the proved library: libgudrenoss.a as `tools/install` puts it, or libcapi.a as `tools/build capi` leaves it.
 //! It is looked for in the folder that GUDRENOSS_LIB_DIR names, which may be relative to where cargo was started, otherwise in
 //! target/staticlib of the repository.
 
@@ -23,7 +23,7 @@ fn main() {
         }
     }
     panic!(
-        "neither libgudrenoss.a nor libcapi.a is in {}: run tools/install and set GUDRENOSS_LIB_DIR to its lib folder, or run rt staticlib capi",
+        "neither libgudrenoss.a nor libcapi.a is in {}: run tools/install and set GUDRENOSS_LIB_DIR to its lib folder, or run tools/build capi",
         folder.display()
     );
 }

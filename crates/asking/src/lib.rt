@@ -6,6 +6,7 @@ ghost use Rattle.std.specs.Prelude.{◌≤◌, length};
 
 use replies::Reply;
 use requests::{Begun, Rest};
+use std::io;
 
 // The answer by the group that knows the verb, of those whose calls write to a lent output; bad if none does.
 fn reply_lent(verb: &[u8], kinds: &[u8], values: &[u64], lent: &mut [u64]) -> Reply {
@@ -176,18 +177,19 @@ fn answer(line: &[u8], bytes: &mut [u8], written: &mut [u8], out: &mut [u8], at:
 
 // The answer to the line that is held. No answer takes more than 262,145 bytes: the digits of as many bytes as a line has, and the newline.
 fn answer_held(
+    rt: &impl Print,
     line: &[u8],
     held: usize,
     bytes: &mut [u8],
     written: &mut [u8],
     out: &mut [u8],
     at: usize,
-) -> usize {
-    let at = streams::with_room(out, at, 262145);
+) -> io::Result<usize> {
+    let at = streams::with_room(rt, out, at, 262145)?;
     if held > line.len() {
-        return replies::bad(out, at);
+        return Ok(replies::bad(out, at));
     }
-    answer(&line[0..held], bytes, written, out, at)
+    Ok(answer(&line[0..held], bytes, written, out, at))
 }
 
 // Holds one more byte of a line, where there is room for it. There is room for one byte more than a request has, so a line that is cut
@@ -202,13 +204,14 @@ fn hold(line: &mut [u8], held: usize, b: u8) -> usize {
 
 // Answers the lines that end in a block, and holds what stands after the last of them: answers how many bytes that are.
 fn answer_block(
+    rt: &impl Print,
     block: &[u8],
     line: &mut [u8],
     before: usize,
     bytes: &mut [u8],
     written: &mut [u8],
     out: &mut [u8],
-) -> usize {
+) -> io::Result<usize> {
     let mut held = before;
     let mut at = 0;
     let mut i = 0;
@@ -216,52 +219,68 @@ fn answer_block(
         let b = block[i];
         i += 1;
         if b == b'\n' {
-            at = answer_held(line, held, bytes, written, out, at);
+            at = answer_held(rt, line, held, bytes, written, out, at)?;
             held = 0;
         } else {
             held = hold(line, held, b);
         }
     }
-    streams::flush(out, at);
-    held
+    streams::flush(rt, out, at)?;
+    Ok(held)
 }
 
 // A last line without a newline is a line.
-fn answer_last(line: &[u8], held: usize, bytes: &mut [u8], written: &mut [u8], out: &mut [u8]) {
+fn answer_last(
+    rt: &impl Print,
+    line: &[u8],
+    held: usize,
+    bytes: &mut [u8],
+    written: &mut [u8],
+    out: &mut [u8],
+) -> io::Result<()> {
     if held > 0 {
-        let at = answer_held(line, held, bytes, written, out, 0);
-        streams::flush(out, at);
+        let at = answer_held(rt, line, held, bytes, written, out, 0)?;
+        streams::flush(rt, out, at)?;
     }
+    Ok(())
 }
 
 // Answers the input block by block. Nothing says that an input ends, so the blocks are counted down from a number that no run uses up.
 fn answer_input(
+    rt: &(impl Input + Print),
     block: &mut [u8],
     line: &mut [u8],
     bytes: &mut [u8],
     written: &mut [u8],
     out: &mut [u8],
-) {
+) -> io::Result<()> {
     let mut held = 0;
     let mut turns = u64::MAX;
     while turns > 0 {
-        let n = streams::read_some(block);
+        let n = streams::read_some(rt, block)?;
         if n == 0 {
-            answer_last(line, held, bytes, written, out);
-            return;
+            return answer_last(rt, line, held, bytes, written, out);
         }
-        held = answer_block(&block[0..n], line, held, bytes, written, out);
+        held = answer_block(rt, &block[0..n], line, held, bytes, written, out)?;
         turns -= 1;
     }
+    Ok(())
 }
 
 // Answers standard input on standard output. A line has 262,144 bytes at most, so its bytes are 131,072 at most, and so are those of an answer.
 // The buffers take 917,505 bytes of the stack.
-pub fn run() {
-    let mut block = io::large_buffer();
+pub fn run(rt: &(impl Input + Print)) -> io::Result<()> {
+    let mut block = [0u8; 65536];
     let mut line = [0u8; 262145];
     let mut bytes = [0u8; 131072];
     let mut written = [0u8; 131072];
     let mut out = [0u8; 327680];
-    answer_input(&mut block, &mut line, &mut bytes, &mut written, &mut out);
+    answer_input(
+        rt,
+        &mut block,
+        &mut line,
+        &mut bytes,
+        &mut written,
+        &mut out,
+    )
 }

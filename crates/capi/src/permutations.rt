@@ -5,7 +5,7 @@ ghost use Rattle.permutation.specs.Record.{arranged_says, signature_says};
 ghost use Rattle.permutation.specs.Rules.{image_says};
 ghost use Rattle.permutation_group.specs.Rules.{inverse_says, compose_says, sign_says};
 ghost use Rattle.permutation_order.specs.Rules.{arrangement_rank_says, arrangement_unrank_says, arrangement_successor_says};
-ghost use Rattle.boundary.specs.Boundary.{status, stored, itself, minus as isMinus};
+ghost use Rattle.boundary.specs.Boundary.{status, stored, itself, minus as is_minus};
 ghost use Rattle.capi.specs.Permutations.{lent_as, entries_of, length_of};
 
 use boundary::Status;
@@ -43,7 +43,7 @@ fn arranged(a: Arranged, entries: &mut [u64; CAPACITY], len: &mut u64) -> Status
 // A sign that is an answer, as whether it is minus.
 fn signed(a: Signature, out: &mut bool) -> Status
     ensures back { result ≡ status (signature_says a) }
-    ensures holds { out.new ≡ stored isMinus (signature_says a) out.old }
+    ensures holds { out.new ≡ stored is_minus (signature_says a) out.old }
 {
     match a {
         Signature::Is(s) => {
@@ -112,7 +112,7 @@ pub extern "C" fn gudrenoss_permutation_sign(
     minus: &mut bool,
 ) -> Status
     ensures back { result ≡ status (sign_says (lent_as p.now n)) }
-    ensures holds { minus.new ≡ stored isMinus (sign_says (lent_as p.now n)) minus.old }
+    ensures holds { minus.new ≡ stored is_minus (sign_says (lent_as p.now n)) minus.old }
 {
     signed(permutation_group::sign(lent(p, n)), minus)
 }

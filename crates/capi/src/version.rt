@@ -1,7 +1,7 @@
 // The version of the library, for programs in C: what a program was linked with, to be held to the header that it was compiled with.
 ghost use Rattle.std.specs.Prelude.{◌≡◌};
 ghost use Rattle.boundary.specs.Boundary.{answered};
-ghost use Rattle.capi.specs.Version.{major as majorOf, minor as minorOf, patch as patch_of};
+ghost use Rattle.capi.specs.Version.{major as major_of, minor as minor_of, patch as patch_of};
 
 use boundary::Status;
 
@@ -9,8 +9,8 @@ use boundary::Status;
 #[unsafe(no_mangle)]
 pub extern "C" fn gudrenoss_version(major: &mut u64, minor: &mut u64, patch: &mut u64) -> Status
     ensures back { result ≡ answered }
-    ensures major { major.new ≡ majorOf }
-    ensures minor { minor.new ≡ minorOf }
+    ensures major { major.new ≡ major_of }
+    ensures minor { minor.new ≡ minor_of }
     ensures patch { patch.new ≡ patch_of }
 {
     *major = 0;

@@ -5,7 +5,7 @@
 ghost use Rattle.std.specs.Prelude.{◌≡◌, false, ◌++◌, ◌+◌, ◌*◌, ◌^◌, ◌<◌, ◌≤◌, leb, length, drop};
 ghost use Rattle.positional.specs.Positional.{product as product_of, Digits, positional_value, digits_of};
 ghost use Rattle.answers.specs.Says.{answer_says, places_of, after};
-ghost use Rattle.cartesian.specs.Checks.{number_says, within as withinOf};
+ghost use Rattle.cartesian.specs.Checks.{number_says, within as within_of};
 ghost use Rattle.cartesian.specs.Rules.{shape_count_says, linearize_says, delinearize_says};
 
 use answers::{Answer, Refusal};
@@ -66,7 +66,7 @@ pub fn shape_count(radices: &[u64]) -> Answer
 // Whether every digit is below its radix.
 fn within(radices: &[u64], digits: &[u64]) -> bool
     requires { length digits.now ≡ length radices.now }
-    ensures { result ≡ withinOf radices.now digits.now }
+    ensures { result ≡ within_of radices.now digits.now }
 {
     let mut i = 0;
     while i < radices.len() {

@@ -3,7 +3,7 @@
 #![tactic(auto)]
 
 ghost use Rattle.std.specs.Prelude.{◌≡◌, false, ◌++◌, ℕ, ◌+◌, ◌*◌, ◌-◌, ◌<◌, ◌≤◌, length, drop};
-ghost use Rattle.positional.specs.Positional.{strides as stridesOf};
+ghost use Rattle.positional.specs.Positional.{strides as strides_of};
 ghost use Rattle.answers.specs.Says.{answer_says, places_of, after};
 ghost use Rattle.cartesian.specs.Checks.{number_says};
 ghost use Rattle.cartesian_strides.specs.Partial.{too_big};
@@ -32,7 +32,7 @@ fn too_big(radices: &[u64], upto: usize) -> bool
 // Writes the strides. The last radix is in none of them.
 fn write_strides(radices: &[u64], out: &mut [u64])
     requires { (too_big radices.now (length radices.now - 1) ≡ false) × (length radices.now ≤ length out.old) }
-    ensures { out.new ≡ stridesOf radices.now ++ drop (length (stridesOf radices.now)) out.old }
+    ensures { out.new ≡ strides_of radices.now ++ drop (length (strides_of radices.now)) out.old }
 {
     let mut stride: u64 = 1;
     let mut i = 0;

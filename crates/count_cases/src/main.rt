@@ -1,17 +1,18 @@
 #![tactic(auto)]
 
+use std::io;
+
 // Runs the code's answers at the edges of its tables: each line is held to crates/count_cases/stdout.
-fn main() {
-    line(count::binomial(64, 32));
-    line(count::binomial(65, 1));
-    line(count::binomial(64, 64));
-    line(count::binomial(3, 5));
-    line(count::factorial(20));
-    line(count::factorial(21));
+fn main(rt: HostRuntime) -> io::Result<()> {
+    line(&rt, count::binomial(64, 32))?;
+    line(&rt, count::binomial(65, 1))?;
+    line(&rt, count::binomial(64, 64))?;
+    line(&rt, count::binomial(3, 5))?;
+    line(&rt, count::factorial(20))?;
+    line(&rt, count::factorial(21))
 }
 
 // A number on a line of its own.
-fn line(n: u64) {
-    io::print_decimal(1, n);
-    io::write_all(1, b"\n");
+fn line(rt: &impl Print, n: u64) -> io::Result<()> {
+    println!(rt; "{n}")
 }

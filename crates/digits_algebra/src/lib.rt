@@ -2,7 +2,7 @@
 #![tactic(auto)]
 
 ghost use Rattle.std.specs.Prelude.{◌≡◌, ◌<◌, ◌≤◌, length, take};
-ghost use Rattle.words.specs.Inversions.{multiplicity as multiplicityOf};
+ghost use Rattle.words.specs.Inversions.{multiplicity as multiplicity_of};
 ghost use Rattle.answers.specs.Says.{answer_says};
 ghost use Rattle.cartesian.specs.Checks.{number_says};
 ghost use Rattle.deletion.specs.Multiplicities.{stabilizer_of};
@@ -15,7 +15,7 @@ use digits::{Deleted, DigitWord, Worded};
 // How many of the first places of the slice hold s.
 fn occurrences(word: &[u64], upto: u64, s: u64) -> u64
     requires { upto ≤ length word.now }
-    ensures { result ≡ multiplicityOf s (take upto word.now) }
+    ensures { result ≡ multiplicity_of s (take upto word.now) }
 {
     let mut n: u64 = 0;
     let mut i: u64 = 0;

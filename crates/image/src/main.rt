@@ -1,6 +1,9 @@
 #![tactic(auto)]
 
+use std::io;
+use std::process::ExitCode;
+
 // Checks an image of coefficient tables, makes one, or looks a term up, as its arguments say.
-fn main() {
-    imaging::run();
+fn main(rt: HostRuntime) -> io::Result<ExitCode> {
+    imaging::run(&rt, &rt.stderr())
 }

@@ -4,18 +4,19 @@
 #![tactic(auto)]
 
 use imaging::Told;
+use std::io;
 
 // What is told of the image that a word of hex digits writes.
-fn check_word(word: &[u8]) {
-    let mut image = io::buffer();
-    let mut out = io::large_buffer();
+fn check_word(rt: &impl Print, word: &[u8]) -> io::Result<()> {
+    let mut image = [0u8; 4096];
+    let mut out = [0u8; 65536];
     let n = spelling::bytes(word, &mut image);
     if n > 4096 {
-        return;
+        return Ok(());
     }
     let p = pieces::feed(pieces::start(), &image[0..n]);
     let told = imaging::put_verdict(&mut out, pieces::end(p));
-    streams::flush(&out, told.end);
+    streams::flush(rt, &out, told.end)
 }
 
 // Puts a byte of a description at its place, and the end of a line for `|`.
@@ -40,59 +41,58 @@ fn broken(words: &[u8], lines: &mut [u8]) {
 }
 
 // The bytes of an image as hex digits and the end of a line, or what is wrong.
-fn put_image(image: &[u8], told: Told) {
+fn put_image(rt: &impl Print, image: &[u8], told: Told) -> io::Result<()> {
     let end = told.end;
     if end > image.len() {
-        return;
+        return Ok(());
     }
     if !told.good {
-        streams::flush(image, end);
-        return;
+        return streams::flush(rt, image, end);
     }
-    let mut out = io::large_buffer();
+    let mut out = [0u8; 65536];
     let at = spelling::put_bytes(&mut out, 0, &image[0..end]);
     let at = text::put_byte(&mut out, at, b'\n');
-    streams::flush(&out, at);
+    streams::flush(rt, &out, at)
 }
 
-fn make_words(words: &[u8]) {
+fn make_words(rt: &impl Print, words: &[u8]) -> io::Result<()> {
     let n = words.len();
     if n > 4096 {
-        return;
+        return Ok(());
     }
-    let mut lines = io::buffer();
-    let mut out = io::large_buffer();
+    let mut lines = [0u8; 4096];
+    let mut out = [0u8; 65536];
     broken(words, &mut lines);
     let told = imaging::put_made(&mut out, &lines[0..n]);
-    put_image(&out, told);
+    put_image(rt, &out, told)
 }
 
 // A line of the input: its first letter says which of the two it is.
-fn answer(line: &[u8]) {
+fn answer(rt: &impl Print, line: &[u8]) -> io::Result<()> {
     if line.len() < 6 {
-        return;
+        return Ok(());
     }
     if line[0] == b'c' {
-        check_word(&line[6..]);
-        return;
+        return check_word(rt, &line[6..]);
     }
-    make_words(&line[5..]);
+    make_words(rt, &line[5..])
 }
 
-fn answer_each(input: &[u8]) {
+fn answer_each(rt: &impl Print, input: &[u8]) -> io::Result<()> {
     let mut at = 0;
     while at < input.len() {
         let end = text::find(input, at, b'\n');
-        answer(&input[at..end]);
+        answer(rt, &input[at..end])?;
         at = end;
         if at < input.len() {
             at += 1;
         }
     }
+    Ok(())
 }
 
-fn main() {
-    let mut buffer = io::large_buffer();
-    let n = io::read_full(0, &mut buffer);
-    answer_each(&buffer[..n]);
+fn main(rt: HostRuntime) -> io::Result<()> {
+    let mut buffer = [0u8; 65536];
+    let n = streams::read_full(&rt, &mut buffer)?;
+    answer_each(&rt, &buffer[..n])
 }

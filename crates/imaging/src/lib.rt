@@ -1,5 +1,5 @@
 // The program `image` (docs/RULES.md, section 17): checks an image, makes one, and looks a term up, over the calls of the library. What is good goes
-// to standard output, and `good` to descriptor 3 when all of it is written; what is wrong goes to standard error alone.
+// to standard output, and the status is 0 when all of it is written; what is wrong goes to standard error alone, and the status is 1.
 #![tactic(auto)]
 
 ghost use Rattle.std.specs.Prelude.{◌≡◌, ◌≤◌, ◌<◌, length};
@@ -8,6 +8,9 @@ use answers::{Answer, Index, Indexed, Refusal};
 use image_description::{Making, Wrong};
 use image_text::Place;
 use pieces::{Pieces, Verdict};
+use std::env::{Env, FillError};
+use std::io;
+use std::process::ExitCode;
 use text::{Named, Number};
 use words::Family;
 
@@ -54,36 +57,36 @@ struct Fed {
     more: bool,
 }
 
-fn feed_some(p: Pieces, block: &mut [u8]) -> Fed {
-    let n = streams::read_some(block);
+fn feed_some(rt: &impl Input, p: Pieces, block: &mut [u8]) -> io::Result<Fed> {
+    let n = streams::read_some(rt, block)?;
     if n == 0 {
         let state = pieces::end(p);
-        return Fed { state, more: false };
+        return Ok(Fed { state, more: false });
     }
     let state = pieces::feed(p, &block[0..n]);
-    Fed { state, more: true }
+    Ok(Fed { state, more: true })
 }
 
 // The state after all of the input. Nothing says that an input ends, so the pieces are counted down from a number that no run uses up.
-fn judged(block: &mut [u8]) -> Pieces {
+fn judged(rt: &impl Input, block: &mut [u8]) -> io::Result<Pieces> {
     let mut p = pieces::start();
     let mut turns = u64::MAX;
     while turns > 0 {
-        let fed = feed_some(p, block);
+        let fed = feed_some(rt, p, block)?;
         let state = fed.state;
         if !fed.more {
-            return state;
+            return Ok(state);
         }
         p = state;
         turns -= 1;
     }
-    p
+    Ok(p)
 }
 
-fn check_input(out: &mut [u8]) -> Told {
-    let mut block = io::buffer();
-    let p = judged(&mut block);
-    put_verdict(out, p)
+fn check_input(rt: &impl Input, out: &mut [u8]) -> io::Result<Told> {
+    let mut block = [0u8; 4096];
+    let p = judged(rt, &mut block)?;
+    Ok(put_verdict(out, p))
 }
 
 // ---- make
@@ -197,7 +200,7 @@ fn write_made(
 // The image that a description asks for, or what is wrong with it.
 pub fn put_made(out: &mut [u8], description: &[u8]) -> Told {
     let mut contents = [0u8; 772];
-    let mut bodies = io::large_buffer();
+    let mut bodies = [0u8; 65536];
     let mut before = [0u64; 64];
     let mut lines = [0u64; 64];
     let m = take_lines(
@@ -218,24 +221,22 @@ fn description_buffer() -> [u8; 262144]
     [0; 262144]
 }
 
-fn make_from_input(out: &mut [u8]) -> Told {
+fn make_from_input(rt: &impl Input, out: &mut [u8]) -> io::Result<Told> {
     let mut description = description_buffer();
-    let n = io::read_full(0, &mut description);
+    let n = streams::read_full(rt, &mut description)?;
     if n >= 262144 {
-        return bad(text::put(out, 0, b"a description has at most 262143 bytes\n"));
+        return Ok(bad(text::put(out, 0, b"a description has at most 262143 bytes\n")));
     }
-    put_made(out, &description[..n])
+    Ok(put_made(out, &description[..n]))
 }
 
 // ---- term
 
 // A coefficient: in decimal, and its bits.
 fn put_coefficient(out: &mut [u8], c: u64) -> usize {
-    let mut digits = [0u8; 16];
-    let n = io::hex(c, 16, &mut digits);
     let at = text::put_number(out, 0, c);
     let at = text::put(out, at, b" 0x");
-    let at = text::put(out, at, &digits[..n]);
+    let at = spelling::put_bytes(out, at, &c.to_be_bytes());
     text::put_byte(out, at, b'\n')
 }
 
@@ -324,28 +325,51 @@ fn put_first(out: &mut [u8], f: Family, word: &[u64], n: usize, image: &[u8]) ->
     put_term(out, f, &word[0..n], image)
 }
 
+// Argument i of the program, into a lent buffer: how many bytes it has, and 0 where it is missing or longer than the buffer.
+fn argument(rt: &impl Env, i: usize, buffer: &mut [u8]) -> usize
+    ensures { result ≤ length buffer.new }
+{
+    match rt.arg(i, buffer) {
+        Ok(n) => n,
+        Err(_) => 0,
+    }
+}
+
+// How many arguments there are, the program's name among them.
+fn argument_count(rt: &impl Env) -> usize {
+    let mut start = [0u8; 1];
+    let mut i = 0;
+    while i < usize::MAX {
+        if let Err(FillError::NotPresent) = rt.arg(i, &mut start) {
+            return i;
+        }
+        i += 1;
+    }
+    i
+}
+
 // The number that argument i of the program writes.
-fn number(i: usize) -> Number {
-    let mut word = io::buffer();
-    let n = os::arg(i, &mut word);
+fn number(rt: &impl Env, i: usize) -> Number {
+    let mut word = [0u8; 4096];
+    let n = argument(rt, i, &mut word);
     text::read_number(&word[..n])
 }
 
 // The family that argument i names.
-fn family(i: usize) -> Named {
-    let mut word = io::buffer();
-    let n = os::arg(i, &mut word);
+fn family(rt: &impl Env, i: usize) -> Named {
+    let mut word = [0u8; 4096];
+    let n = argument(rt, i, &mut word);
     text::family(&word[..n])
 }
 
 // The i-th symbol of a term, which is argument 3 + i: whether it is a number.
-fn take_symbol(word: &mut [u64], i: usize) -> bool
+fn take_symbol(rt: &impl Env, word: &mut [u64], i: usize) -> bool
     requires { i < 64 }
 {
     if i >= word.len() {
         return false;
     }
-    match number(3 + i) {
+    match number(rt, 3 + i) {
         Number::Is(s) => {
             word[i] = s;
             true
@@ -355,12 +379,12 @@ fn take_symbol(word: &mut [u64], i: usize) -> bool
 }
 
 // The symbols of a term, of which there are n: whether all are numbers.
-fn symbols(word: &mut [u64], n: usize) -> bool
+fn symbols(rt: &impl Env, word: &mut [u64], n: usize) -> bool
     requires { n ≤ 64 }
 {
     let mut i = 0;
     while i < n {
-        if !take_symbol(word, i) {
+        if !take_symbol(rt, word, i) {
             return false;
         }
         i += 1;
@@ -368,24 +392,24 @@ fn symbols(word: &mut [u64], n: usize) -> bool
     true
 }
 
-fn look_up(out: &mut [u8], arguments: usize) -> Told {
+fn look_up(rt: &(impl Input + Env), out: &mut [u8], arguments: usize) -> io::Result<Told> {
     if arguments < 3 {
-        return usage(out);
+        return Ok(usage(out));
     }
     let n = arguments - 3;
-    let Named::Family(f) = family(2) else {
-        return usage(out);
+    let Named::Family(f) = family(rt, 2) else {
+        return Ok(usage(out));
     };
     if n > 64 {
-        return bad(text::put(out, 0, b"a term has at most 64 symbols\n"));
+        return Ok(bad(text::put(out, 0, b"a term has at most 64 symbols\n")));
     }
     let mut word = [0u64; 64];
-    if !symbols(&mut word, n) {
-        return bad(text::put(out, 0, b"a symbol is a number below 2^64\n"));
+    if !symbols(rt, &mut word, n) {
+        return Ok(bad(text::put(out, 0, b"a symbol is a number below 2^64\n")));
     }
     let mut image = [0u8; 65537];
-    let size = io::read_full(0, &mut image);
-    put_first(out, f, &word, n, &image[..size])
+    let size = streams::read_full(rt, &mut image)?;
+    Ok(put_first(out, f, &word, n, &image[..size]))
 }
 
 // ---- the program
@@ -399,42 +423,41 @@ fn usage(out: &mut [u8]) -> Told {
 }
 
 // Does what the arguments ask for, of which there are so many, the program's name among them.
-fn answer(out: &mut [u8], arguments: usize) -> Told {
-    let mut word = io::buffer();
-    let n = os::arg(1, &mut word);
+fn answer(rt: &(impl Input + Env), out: &mut [u8], arguments: usize) -> io::Result<Told> {
+    let mut word = [0u8; 4096];
+    let n = argument(rt, 1, &mut word);
     if check::same(&word[..n], b"term") {
-        return look_up(out, arguments);
+        return look_up(rt, out, arguments);
     }
     if arguments != 2 {
-        return usage(out);
+        return Ok(usage(out));
     }
     if check::same(&word[..n], b"check") {
-        return check_input(out);
+        return check_input(rt, out);
     }
     if check::same(&word[..n], b"make") {
-        return make_from_input(out);
+        return make_from_input(rt, out);
     }
-    usage(out)
+    Ok(usage(out))
 }
 
-// Writes what is told: on standard output, and then that it is good, or on standard error.
-fn tell(out: &[u8], told: Told) {
+// Writes what is told, on standard output or on the stream for what is wrong, and answers the status that says which.
+fn tell(rt: &impl Print, errors: &impl Print, out: &[u8], told: Told) -> io::Result<ExitCode> {
     let end = told.end;
     if end > out.len() {
-        return;
+        return Ok(ExitCode::FAILURE);
     }
     if !told.good {
-        io::write_all(2, &out[0..end]);
-        return;
+        errors.write_all(&out[0..end])?;
+        return Ok(ExitCode::FAILURE);
     }
-    if io::write_all(1, &out[0..end]) {
-        io::write_all(3, b"good\n");
-    }
+    rt.write_all(&out[0..end])?;
+    Ok(ExitCode::SUCCESS)
 }
 
-// The program, whole.
-pub fn run() {
-    let mut out = io::large_buffer();
-    let told = answer(&mut out, os::arg_count());
-    tell(&out, told);
+// The program, whole: answers its status. What is wrong is written as bytes, so the stream for it is given by itself.
+pub fn run(rt: &(impl Input + Print + Env), errors: &impl Print) -> io::Result<ExitCode> {
+    let mut out = [0u8; 65536];
+    let told = answer(rt, &mut out, argument_count(rt))?;
+    tell(rt, errors, &out, told)
 }

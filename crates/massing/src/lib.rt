@@ -4,6 +4,8 @@
 
 ghost use Rattle.std.specs.Prelude.{◌≡◌, ◌≤◌, length};
 
+use std::io;
+
 // How far the input is read: how many lines have ended, how many bytes the surface has, and where the next answer goes.
 #[derive(Clone, Copy)]
 struct Progress {
@@ -39,36 +41,43 @@ fn next(lines: u64) -> u64 {
 }
 
 // Answers a line of readings: the lines before it are the image and as many others as it is the next of. No answer takes more than 128 bytes.
-fn answer(line: &[u8], surface: &[u8], out: &mut [u8], p: Progress) -> Progress {
-    let at = streams::with_room(out, p.at, 128);
+fn answer(
+    rt: &impl Print,
+    line: &[u8],
+    surface: &[u8],
+    out: &mut [u8],
+    p: Progress,
+) -> io::Result<Progress> {
+    let at = streams::with_room(rt, out, p.at, 128)?;
     let at = mass_text::put_answer(out, at, surface, line, p.lines);
     let at = text::put_byte(out, at, b'\n');
-    Progress {
+    Ok(Progress {
         lines: next(p.lines),
         size: p.size,
         at,
-    }
+    })
 }
 
 // The same of a line that is held: a longer one is no line of readings.
 fn answer_held(
+    rt: &impl Print,
     line: &[u8],
     held: usize,
     surface: &mut [u8],
     out: &mut [u8],
     p: Progress,
-) -> Progress {
+) -> io::Result<Progress> {
     if held > line.len() {
-        return p;
+        return Ok(p);
     }
     if p.lines == 0 {
-        return take_surface(&line[0..held], surface, out, p.at);
+        return Ok(take_surface(&line[0..held], surface, out, p.at));
     }
     let size = p.size;
     if size > surface.len() {
-        return p;
+        return Ok(p);
     }
-    answer(&line[0..held], &surface[0..size], out, p)
+    answer(rt, &line[0..held], &surface[0..size], out, p)
 }
 
 // Holds one more byte of a line, where there is room for it. There is room for one byte more than the digits of an image, so a line that is cut here is
@@ -89,55 +98,70 @@ struct Held {
 }
 
 // Takes one byte: it ends a line, or is held.
-fn take(line: &mut [u8], h: Held, b: u8, surface: &mut [u8], out: &mut [u8]) -> Held {
+fn take(
+    rt: &impl Print,
+    line: &mut [u8],
+    h: Held,
+    b: u8,
+    surface: &mut [u8],
+    out: &mut [u8],
+) -> io::Result<Held> {
     let progress = h.progress;
     if b == b'\n' {
-        let progress = answer_held(line, h.bytes, surface, out, progress);
-        return Held { bytes: 0, progress };
+        let progress = answer_held(rt, line, h.bytes, surface, out, progress)?;
+        return Ok(Held { bytes: 0, progress });
     }
     let bytes = hold(line, h.bytes, b);
-    Held { bytes, progress }
+    Ok(Held { bytes, progress })
 }
 
 // Answers the lines that end in a block, and holds what stands after the last of them.
 fn answer_block(
+    rt: &impl Print,
     block: &[u8],
     line: &mut [u8],
     before: Held,
     surface: &mut [u8],
     out: &mut [u8],
-) -> Held {
+) -> io::Result<Held> {
     let mut h = before;
     let mut i = 0;
     while i < block.len() {
-        h = take(line, h, block[i], surface, out);
+        h = take(rt, line, h, block[i], surface, out)?;
         i += 1;
     }
-    h
+    Ok(h)
 }
 
 // Writes the answers out, so that whoever waits for them has them; the next go to the beginning of the buffer.
-fn written(out: &[u8], h: Held) -> Held {
+fn written(rt: &impl Print, out: &[u8], h: Held) -> io::Result<Held> {
     let p = h.progress;
-    streams::flush(out, p.at);
+    streams::flush(rt, out, p.at)?;
     let progress = Progress {
         lines: p.lines,
         size: p.size,
         at: 0,
     };
-    Held {
+    Ok(Held {
         bytes: h.bytes,
         progress,
-    }
+    })
 }
 
 // A last line without a newline is a line.
-fn finish(line: &[u8], h: Held, surface: &mut [u8], out: &mut [u8]) {
+fn finish(
+    rt: &impl Print,
+    line: &[u8],
+    h: Held,
+    surface: &mut [u8],
+    out: &mut [u8],
+) -> io::Result<()> {
     let p = h.progress;
     if h.bytes > 0 {
-        let p = answer_held(line, h.bytes, surface, out, p);
-        streams::flush(out, p.at);
+        let p = answer_held(rt, line, h.bytes, surface, out, p)?;
+        streams::flush(rt, out, p.at)?;
     }
+    Ok(())
 }
 
 fn start() -> Held {
@@ -150,26 +174,32 @@ fn start() -> Held {
 }
 
 // Answers the input block by block. Nothing says that an input ends, so the blocks are counted down from a number that no run uses up.
-fn answer_input(block: &mut [u8], line: &mut [u8], surface: &mut [u8], out: &mut [u8]) {
+fn answer_input(
+    rt: &(impl Input + Print),
+    block: &mut [u8],
+    line: &mut [u8],
+    surface: &mut [u8],
+    out: &mut [u8],
+) -> io::Result<()> {
     let mut h = start();
     let mut turns = u64::MAX;
     while turns > 0 {
-        let n = streams::read_some(block);
+        let n = streams::read_some(rt, block)?;
         if n == 0 {
-            finish(line, h, surface, out);
-            return;
+            return finish(rt, line, h, surface, out);
         }
-        h = answer_block(&block[0..n], line, h, surface, out);
-        h = written(out, h);
+        h = answer_block(rt, &block[0..n], line, h, surface, out)?;
+        h = written(rt, out, h)?;
         turns -= 1;
     }
+    Ok(())
 }
 
 // The program, whole. A good image has at most 65,536 bytes, and one byte more tells that a longer one is bad; so a line has at most 131,074 digits.
-pub fn run() {
-    let mut block = io::large_buffer();
+pub fn run(rt: &(impl Input + Print)) -> io::Result<()> {
+    let mut block = [0u8; 65536];
     let mut line = [0u8; 131075];
     let mut surface = [0u8; 65537];
     let mut out = [0u8; 65536];
-    answer_input(&mut block, &mut line, &mut surface, &mut out);
+    answer_input(rt, &mut block, &mut line, &mut surface, &mut out)
 }

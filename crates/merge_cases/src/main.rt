@@ -7,6 +7,7 @@ mod spaces; // spaces.rt: the cases
 
 use laws::Triple;
 use spaces::Space;
+use std::io;
 
 // What the cases of a space came to; `first` is the last that was found to differ, the cases being run from the last to the first.
 #[derive(Clone, Copy)]
@@ -21,67 +22,71 @@ struct Tally {
     seed: u64,
 }
 
-fn main() {
-    line(b"exchanges of any two small records: ", Space::Pairs, 25600);
+fn main(rt: HostRuntime) -> io::Result<()> {
     line(
-        b"exchanges of any two records at the limits: ",
+        &rt,
+        "exchanges of any two small records: ",
+        Space::Pairs,
+        25600,
+    )?;
+    line(
+        &rt,
+        "exchanges of any two records at the limits: ",
         Space::LimitPairs,
         576,
-    );
-    line(b"small sets: ", Space::Small(false), 512000);
-    line(b"small words with repeats: ", Space::Small(true), 512000);
-    line(b"sets at the limits: ", Space::Limits(false), 1728);
+    )?;
+    line(&rt, "small sets: ", Space::Small(false), 512000)?;
     line(
-        b"words with repeats at the limits: ",
+        &rt,
+        "small words with repeats: ",
+        Space::Small(true),
+        512000,
+    )?;
+    line(&rt, "sets at the limits: ", Space::Limits(false), 1728)?;
+    line(
+        &rt,
+        "words with repeats at the limits: ",
         Space::Limits(true),
         1728,
-    );
-    line(b"wide sets: ", Space::Wide(false), 12000);
-    line(b"wide words with repeats: ", Space::Wide(true), 12000);
+    )?;
+    line(&rt, "wide sets: ", Space::Wide(false), 12000)?;
+    line(&rt, "wide words with repeats: ", Space::Wide(true), 12000)
 }
 
 // The line of a space.
-fn line(name: &[u8], space: Space, size: u64) {
+fn line(rt: &impl Print, name: &str, space: Space, size: u64) -> io::Result<()> {
     let tally = counted(space, size);
-    io::write_all(1, name);
-    part(tally.answered, b" answered, ");
-    part(tally.with_1, b" refused with 1, ");
-    part(tally.with_5, b" with 5, ");
-    part(tally.with_6, b" with 6, ");
-    part(tally.with_7, b" with 7, ");
-    part(tally.differ, b" differ\n");
+    rt.print(name)?;
+    part(rt, tally.answered, " answered, ")?;
+    part(rt, tally.with_1, " refused with 1, ")?;
+    part(rt, tally.with_5, " with 5, ")?;
+    part(rt, tally.with_6, " with 6, ")?;
+    part(rt, tally.with_7, " with 7, ")?;
+    part(rt, tally.differ, " differ\n")?;
     if tally.differ != 0 {
         let first = tally.first;
-        io::write_all(1, b"the first:");
-        let x = first.x;
-        let y = first.y;
-        let z = first.z;
-        record(x);
-        record(y);
-        record(z);
-        io::write_all(1, b"\n");
+        rt.print("the first:")?;
+        record(rt, first.x)?;
+        record(rt, first.y)?;
+        record(rt, first.z)?;
+        rt.print("\n")?;
     }
+    Ok(())
 }
 
 // A number, and what stands behind it.
-fn part(n: u64, after: &[u8]) {
-    io::print_decimal(1, n);
-    io::write_all(1, after);
+fn part(rt: &impl Print, n: u64, after: &str) -> io::Result<()> {
+    print!(rt; "{n}{after}")
 }
 
 // A record as the program ask writes one: its family, alphabet and bits.
-fn record(x: answers::Index) {
-    let family = x.family;
-    match family {
-        words::Family::Forbidden => {
-            io::write_all(1, b" forbidden ");
-        }
-        words::Family::Allowed => {
-            io::write_all(1, b" allowed ");
-        }
+fn record(rt: &impl Print, x: answers::Index) -> io::Result<()> {
+    match x.family {
+        words::Family::Forbidden => rt.print(" forbidden ")?,
+        words::Family::Allowed => rt.print(" allowed ")?,
     }
-    part(x.alphabet, b" ");
-    io::print_decimal(1, x.bits);
+    part(rt, x.alphabet, " ")?;
+    part(rt, x.bits, "")
 }
 
 // The cases of a space, from the last to the first.

@@ -3,7 +3,7 @@
 
 ghost use Rattle.std.specs.Prelude.{◌≡◌, ◌≤◌, length};
 ghost use Rattle.answers.specs.Says.{answer_says, indexed_says, places_of, after};
-ghost use Rattle.monotone_unrank.specs.Rules.{unrank_over_says, unrank_says, widest as widestOf, unrank_any_says};
+ghost use Rattle.monotone_unrank.specs.Rules.{unrank_over_says, unrank_says, widest as widest_of, unrank_any_says};
 
 use answers::{Answer, Index, Indexed, Refusal};
 use words::Family;
@@ -49,7 +49,7 @@ pub fn unrank(family: Family, n: u64, k: u64, r: u64, out: &mut [u64]) -> Answer
 // The alphabet whose shifted alphabet is 64: 64 for Forbidden or degree 0, otherwise 65 - k.
 fn widest(family: Family, k: u64) -> u64
     requires { k ≤ 64 }
-    ensures { result ≡ widestOf family k }
+    ensures { result ≡ widest_of family k }
 {
     if k == 0 {
         return 64;

@@ -34,7 +34,7 @@ use Rattle.taking.specs.declared.Verdict.{Verdict}
 use Rattle.taking.specs.declared.Verdict.TheVariants as verdict
 use Rattle.taking.specs.Taken.{shifted_alphabet_of, Accepted, verdict_of}
 use Rattle.taking.proofs.Accepted.{below_is_shifted, outside_is_reaches, taken-accepted, took, verdict_accepted}
-use Rattle.seam.specs.Later.{following as followingOf}
+use Rattle.seam.specs.Later.{following as following_of}
 use Rattle.successor.specs.Later.{later}
 use Rattle.monotone_walk.specs.Rules.{next_says, successor_says}
 use Rattle.monotone_walk.specs.declared.Current.TheVariants.{At}
@@ -49,7 +49,7 @@ none true e = e
 none false e = refl
 
 -- as a set, the next word is the next set
-next_bits_lem : (x : Index) → bits_of (shifted x.family (next x.family (word_of x))) ≡ followingOf x.bits
+next_bits_lem : (x : Index) → bits_of (shifted x.family (next x.family (word_of x))) ≡ following_of x.bits
 next_bits_lem x = ap bits_of (shifted_next x.family (word_of x) (word-monotone x) ∙ ap (next Forbidden) (shifted-word x))
 
 some_bits : (w : List ℕ) → 0 < length w → 0 < bits_of w
@@ -76,7 +76,7 @@ pub record Following (x : Index) (b : ℕ) : Type 0 where
   pub more : (b ≡ 0 → ⊥) → reaches (shifted_alphabet_of x) (set_bits b) ≡ false → gives (moved x b) ≡ next_says x
 
 -- a next set past 64 digits has a symbol past the alphabet
-past-alphabet : (x : Index) → Accepted x → 2 ^ 64 ≤ followingOf x.bits → reaches x.alphabet (next x.family (word_of x)) ≡ true
+past-alphabet : (x : Index) → Accepted x → 2 ^ 64 ≤ following_of x.bits → reaches x.alphabet (next x.family (word_of x)) ≡ true
 past-alphabet x a h = go (reaches x.alphabet (next x.family (word_of x))) refl
   where
     go : (t : Bool) → reaches x.alphabet (next x.family (word_of x)) ≡ t → t ≡ true
@@ -91,15 +91,15 @@ past-alphabet x a h = go (reaches x.alphabet (next x.family (word_of x))) refl
         absurd (omega (arith, h, next_bits_lem x, l, pow_mono a.narrow))
 
 pub following : (x : Index) (b : ℕ) → Accepted x → b ≡ later x.bits → Following x b
-following x b a e = go (eqb (length (word_of x)) 0) refl (ltb (followingOf x.bits) (2 ^ 64)) refl
+following x b a e = go (eqb (length (word_of x)) 0) refl (ltb (following_of x.bits) (2 ^ 64)) refl
   where
-    is : (t : Bool) → ltb (followingOf x.bits) (2 ^ 64) ≡ t → b ≡ pick t (followingOf x.bits) 0
-    is t q = e ∙ ap (λ (s : Bool). pick s (followingOf x.bits) 0) q
+    is : (t : Bool) → ltb (following_of x.bits) (2 ^ 64) ≡ t → b ≡ pick t (following_of x.bits) 0
+    is t q = e ∙ ap (λ (s : Bool). pick s (following_of x.bits) 0) q
 
-    some : eqb (length (word_of x)) 0 ≡ false → 0 < followingOf x.bits
+    some : eqb (length (word_of x)) 0 ≡ false → 0 < following_of x.bits
     some p = some_bits (next Forbidden (set_bits x.bits)) (pos_of_ne (length (next Forbidden (set_bits x.bits))) (length (word_of x)) (eqb-false (length (word_of x)) 0 p) (next_set_long x))
 
-    go : (s : Bool) → eqb (length (word_of x)) 0 ≡ s → (t : Bool) → ltb (followingOf x.bits) (2 ^ 64) ≡ t → Following x b
+    go : (s : Bool) → eqb (length (word_of x)) 0 ≡ s → (t : Bool) → ltb (following_of x.bits) (2 ^ 64) ≡ t → Following x b
     go true p t q =
         let z : b ≡ 0 = is t q ∙ none t (no_bits (next Forbidden (set_bits x.bits)) (next_set_long x ∙ eqb-true (length (word_of x)) 0 p)) in
         record { last = λ n. simp p; past = λ n o. absurd (n z); more = λ n o. absurd (n z) }
@@ -116,16 +116,16 @@ following x b a e = go (eqb (length (word_of x)) 0) refl (ltb (followingOf x.bit
           more = λ n y. simp (p, sym o ∙ y, u);
         }
     go false p false q =
-        let m : reaches x.alphabet (next x.family (word_of x)) ≡ true = past-alphabet x a (ltb-false (followingOf x.bits) (2 ^ 64) q) in
+        let m : reaches x.alphabet (next x.family (word_of x)) ≡ true = past-alphabet x a (ltb-false (following_of x.bits) (2 ^ 64) q) in
         record { last = λ n. simp (p, m); past = λ n o. absurd (n (is false q)); more = λ n o. absurd (n (is false q)) }
 
 -- a set is smaller than the one that follows it
-before_following : (a : ℕ) → (followingOf a ≡ 0 → ⊥) → a < followingOf a
+before_following : (a : ℕ) → (following_of a ≡ 0 → ⊥) → a < following_of a
 before_following a h = go (dec_le 1 (length (set_bits a)))
   where
-    go : Dec (1 ≤ length (set_bits a)) → a < followingOf a
+    go : Dec (1 ≤ length (set_bits a)) → a < following_of a
     go (yes l) =
-        subst (λ (b : ℕ). b < followingOf a) (bits_of_set a)
+        subst (λ (b : ℕ). b < following_of a) (bits_of_set a)
         ((colex_is_order_of_numbers (set_bits a) (next Forbidden (set_bits a)) (set-bits-monotone a) (next_monotone Forbidden (set_bits a) (set-bits-monotone a))
         (sym (next_long Forbidden (set_bits a)))).0 (next_is_later Forbidden (set_bits a) l (set-bits-monotone a)))
     go (no l) = absurd (h (no_bits (next Forbidden (set_bits a)) (next_long Forbidden (set_bits a) ∙ omega arith)))
@@ -134,14 +134,14 @@ before_following a h = go (dec_le 1 (length (set_bits a)))
 pub next_accepted : (x : Index) (b : ℕ) → b ≡ later x.bits → (b ≡ 0 → ⊥) → shifted_alphabet_of x ≤ 64 → reaches (shifted_alphabet_of x) (set_bits b) ≡ false → Accepted x
 next_accepted x b e h l r = record { narrow = l; over = (below_is_shifted x x.alphabet (length (word_of x)) refl).1 (below_of_bits (shifted_alphabet_of x) (set_bits x.bits) low) }
   where
-    is : (t : Bool) → ltb (followingOf x.bits) (2 ^ 64) ≡ t → b ≡ followingOf x.bits
-    is true q = e ∙ ap (λ (s : Bool). pick s (followingOf x.bits) 0) q
-    is false q = absurd (h (e ∙ ap (λ (s : Bool). pick s (followingOf x.bits) 0) q))
+    is : (t : Bool) → ltb (following_of x.bits) (2 ^ 64) ≡ t → b ≡ following_of x.bits
+    is true q = e ∙ ap (λ (s : Bool). pick s (following_of x.bits) 0) q
+    is false q = absurd (h (e ∙ ap (λ (s : Bool). pick s (following_of x.bits) 0) q))
 
     low : bits_of (set_bits x.bits) < 2 ^ shifted_alphabet_of x
     low =
-        let f : b ≡ followingOf x.bits = is (ltb (followingOf x.bits) (2 ^ 64)) refl in
-        let u : x.bits < followingOf x.bits = before_following x.bits (λ z. h (f ∙ z)) in
+        let f : b ≡ following_of x.bits = is (ltb (following_of x.bits) (2 ^ 64)) refl in
+        let u : x.bits < following_of x.bits = before_following x.bits (λ z. h (f ∙ z)) in
         let v : bits_of (set_bits b) < 2 ^ shifted_alphabet_of x = bits_fit (shifted_alphabet_of x) (set_bits b) (set-bits-monotone b) ((reaches_not (shifted_alphabet_of x) (set_bits b)).0 r) in
         omega (arith, u, v, f, bits_of_set b, bits_of_set x.bits)
 

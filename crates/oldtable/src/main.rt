@@ -1,6 +1,8 @@
 #![tactic(auto)]
 
+use std::io;
+
 // Converts the text of an old table, from standard input to standard output.
-fn main() {
-    oldtable_text::run();
+fn main(rt: HostRuntime) -> io::Result<()> {
+    oldtable_text::run(&rt)
 }

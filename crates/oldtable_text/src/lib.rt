@@ -3,6 +3,7 @@
 #![tactic(auto)]
 
 use answers::{Answer, Refusal};
+use std::io;
 use text::{Named, Number};
 use words::Family;
 
@@ -153,60 +154,68 @@ fn put_header(out: &mut [u8], at: usize, h: Header) -> usize {
 }
 
 // The line of entry r of a body.
-fn put_entry(out: &mut [u8], at: usize, body: &[u8], r: u64) -> usize {
+fn put_entry(rt: &impl Print, out: &mut [u8], at: usize, body: &[u8], r: u64) -> io::Result<usize> {
     if r >= 8192 {
-        return at;
+        return Ok(at);
     }
     if body.len() < 65536 {
-        return at;
+        return Ok(at);
     }
     let from = (8 * r) as usize;
     let end = from + 8;
-    let at = streams::with_room(out, at, 32);
+    let at = streams::with_room(rt, out, at, 32)?;
     let at = spelling::put_bytes(out, at, &body[from..end]);
-    text::put_byte(out, at, b'\n')
+    Ok(text::put_byte(out, at, b'\n'))
 }
 
-fn put_entries(out: &mut [u8], at: usize, body: &[u8], count: u64) -> usize {
+fn put_entries(
+    rt: &impl Print,
+    out: &mut [u8],
+    at: usize,
+    body: &[u8],
+    count: u64,
+) -> io::Result<usize> {
     let mut to = at;
     let mut r: u64 = 0;
     while r < count {
-        to = put_entry(out, to, body, r);
+        to = put_entry(rt, out, to, body, r)?;
         r += 1;
     }
-    to
+    Ok(to)
 }
 
 // The table of a body of so many entries, converted into a lent other body.
 fn put_converted(
+    rt: &impl Print,
     out: &mut [u8],
     at: usize,
     h: Header,
     body: &[u8],
     other: &mut [u8],
     count: u64,
-) -> usize {
+) -> io::Result<usize> {
     if count > 8192 {
-        return at;
+        return Ok(at);
     }
     if body.len() < 65536 {
-        return at;
+        return Ok(at);
     }
     if other.len() < 65536 {
-        return at;
+        return Ok(at);
     }
     let family = h.family;
     let end = (8 * count) as usize;
     let a = conversion::convert(h.back, family, h.n, h.k, &body[0..end], &mut other[0..end]);
     if let Answer::Refused(e) = a {
-        return put_refusal(out, at, e);
+        return Ok(put_refusal(out, at, e));
     }
     let at = put_header(out, at, h);
-    put_entries(out, at, other, count)
+    put_entries(rt, out, at, other, count)
 }
 
 // The table whose entries stand from a place of the text on, taken into a lent body, or what is wrong with them.
 fn put_body(
+    rt: &impl Print,
     out: &mut [u8],
     at: usize,
     h: Header,
@@ -214,58 +223,66 @@ fn put_body(
     from: usize,
     body: &mut [u8],
     count: u64,
-) -> usize {
+) -> io::Result<usize> {
     match take_entries(held, from, count, body) {
-        Taken::Wrong(r) => put_fault_of(out, at, r, b"an entry is sixteen hex digits"),
-        Taken::Short(r) => { put_fault_of(out, at, r, b"the table ends before its last entry") }
+        Taken::Wrong(r) => Ok(put_fault_of(out, at, r, b"an entry is sixteen hex digits")),
+        Taken::Short(r) => Ok(put_fault_of(out, at, r, b"the table ends before its last entry")),
         Taken::All(end) => {
             if end < held.len() {
-                return put_fault_of(out, at, count, b"the table goes on after its last entry");
+                let at = put_fault_of(out, at, count, b"the table goes on after its last entry");
+                return Ok(at);
             }
             let mut other = [0u8; 65536];
-            put_converted(out, at, h, body, &mut other, count)
+            put_converted(rt, out, at, h, body, &mut other, count)
         }
     }
 }
 
 // What a header asks for, with the text in which the entries stand from a place on.
-fn put_table(out: &mut [u8], at: usize, h: Header, held: &[u8], from: usize) -> usize {
+fn put_table(
+    rt: &impl Print,
+    out: &mut [u8],
+    at: usize,
+    h: Header,
+    held: &[u8],
+    from: usize,
+) -> io::Result<usize> {
     let family = h.family;
     match monotone_count::count(family, h.n, h.k) {
-        Answer::Refused(e) => put_refusal(out, at, e),
+        Answer::Refused(e) => Ok(put_refusal(out, at, e)),
         Answer::Is(count) => {
             if count > 8192 {
-                return put_fault(out, at, 1, b"more than 8192 entries");
+                return Ok(put_fault(out, at, 1, b"more than 8192 entries"));
             }
             let mut body = [0u8; 65536];
-            put_body(out, at, h, held, from, &mut body, count)
+            put_body(rt, out, at, h, held, from, &mut body, count)
         }
     }
 }
 
-fn put_answer(out: &mut [u8], at: usize, held: &[u8]) -> usize {
+fn put_answer(rt: &impl Print, out: &mut [u8], at: usize, held: &[u8]) -> io::Result<usize> {
     let end = text::find(held, 0, b'\n');
     match parse(&held[0..end]) {
-        Asked::Bad => put_fault(out, at, 1, b"the header is DIRECTION FAMILY N K"),
-        Asked::Table(h) => put_table(out, at, h, held, end + 1),
+        Asked::Bad => Ok(put_fault(out, at, 1, b"the header is DIRECTION FAMILY N K")),
+        Asked::Table(h) => put_table(rt, out, at, h, held, end + 1),
     }
 }
 
 // Writes to standard output what the program answers to an input, of which all is held, or more bytes than a good one has.
-fn answer(held: &[u8]) {
-    let mut out = io::buffer();
+fn answer(rt: &impl Print, held: &[u8]) -> io::Result<()> {
+    let mut out = [0u8; 4096];
     let at = text::put(
         &mut out,
         0,
         b"in the old order widening the alphabet renumbers terms\n",
     );
-    let at = put_answer(&mut out, at, held);
-    streams::flush(&out, at);
+    let at = put_answer(rt, &mut out, at, held)?;
+    streams::flush(rt, &out, at)
 }
 
 // The program, whole. A good input has at most 139,327 bytes: a header of 63 and 8,192 lines of 17.
-pub fn run() {
+pub fn run(rt: &(impl Input + Print)) -> io::Result<()> {
     let mut buffer = [0u8; 140000];
-    let n = io::read_full(0, &mut buffer);
-    answer(&buffer[0..n]);
+    let n = streams::read_full(rt, &mut buffer)?;
+    answer(rt, &buffer[0..n])
 }

@@ -36,7 +36,7 @@ use Rattle.deletion.specs.Rules.{Removed, deleted_says}
 use Rattle.digits.specs.declared.Worded.{Worded}
 use Rattle.digits.specs.declared.Worded.TheVariants as worded
 use Rattle.digits.specs.declared.Deleted.{Deleted as DigitDeleted}
-use Rattle.digits.specs.declared.Deleted.TheVariants as digitDeleted
+use Rattle.digits.specs.declared.Deleted.TheVariants as digit_deleted
 use Rattle.digits.specs.Rules.{TakenOut, worded_says, digit_deleted_says}
 use Rattle.permutation.specs.declared.Permutation.{Permutation}
 use Rattle.permutation.specs.declared.Signature.{Signature}
@@ -130,10 +130,10 @@ one_digit_word (worded.Refused c) (worded.Is y) e = never y c (sym e)
 one_digit_word (worded.Refused c) (worded.Refused d) e = ap worded.Refused (refused c d e)
 
 pub one_digit_deletion : (a b : DigitDeleted) → digit_deleted_says a ≡ digit_deleted_says b → a ≡ b
-one_digit_deletion (digitDeleted.At s x) (digitDeleted.At t y) e = ap (λ (u : TakenOut). digitDeleted.At u.symbol u.left) (gives_same _ _ e)
-one_digit_deletion (digitDeleted.At s x) (digitDeleted.Refused d) e = never _ d e
-one_digit_deletion (digitDeleted.Refused c) (digitDeleted.At t y) e = never _ c (sym e)
-one_digit_deletion (digitDeleted.Refused c) (digitDeleted.Refused d) e = ap digitDeleted.Refused (refused c d e)
+one_digit_deletion (digit_deleted.At s x) (digit_deleted.At t y) e = ap (λ (u : TakenOut). digit_deleted.At u.symbol u.left) (gives_same _ _ e)
+one_digit_deletion (digit_deleted.At s x) (digit_deleted.Refused d) e = never _ d e
+one_digit_deletion (digit_deleted.Refused c) (digit_deleted.At t y) e = never _ c (sym e)
+one_digit_deletion (digit_deleted.Refused c) (digit_deleted.Refused d) e = ap digit_deleted.Refused (refused c d e)
 
 -- ---- those on permutations
 

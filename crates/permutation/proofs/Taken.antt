@@ -21,7 +21,7 @@ use Rattle.permutation.specs.declared.Permutation.{Permutation}
 use Rattle.permutation.specs.declared.Verdict.{Verdict}
 use Rattle.permutation.specs.declared.Verdict.TheVariants as verdict
 use Rattle.permutation.specs.Record.{capacity, zeros_only, arrangement_of, Whole, GoodRecord, verdict_says}
-use Rattle.permutation.specs.Rules.{too_long, is_good, not_aPermutation, taken_arrangement}
+use Rattle.permutation.specs.Rules.{too_long, is_good, not_a_permutation, taken_arrangement}
 use Rattle.permutation.proofs.Past.{past-tells, past-passes}
 
 pub word_at : (p : Permutation) (i : ℕ) → i < p.len → get_or (arrangement_of p) i 0 ≡ get_or p.entries i 0
@@ -53,8 +53,8 @@ taken_holds p h = simp (le-ltb capacity p.len h.short, holds_good p h)
 pub holds_taken : (p : Permutation) (w : List ℕ) → Whole p → taken_arrangement p ≡ gives w → GoodRecord p
 unfolding taken_arrangement
 holds_taken p w l e =
-    let first = passed (too_long p.len) 1 (refused_if (not_aPermutation p) 10 (gives (arrangement_of p))) w e in
-    let second = passed (not_aPermutation p) 10 (gives (arrangement_of p)) w first.1 in
+    let first = passed (too_long p.len) 1 (refused_if (not_a_permutation p) 10 (gives (arrangement_of p))) w e in
+    let second = passed (not_a_permutation p) 10 (gives (arrangement_of p)) w first.1 in
     tested_holds p l (ltb-false capacity p.len first.0) (not-false (is_good p.entries p.len) second.0)
 
 -- ---- the verdict of the check

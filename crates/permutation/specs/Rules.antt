@@ -18,11 +18,11 @@ too_long n = ltb capacity n
 unfoldable pub is_good : List ℕ → ℕ → Bool
 is_good e n = pick (is_permutation (take n e)) (zeros_only (drop n e)) false
 
-abbrev pub not_aPermutation : Permutation → Bool
-not_aPermutation p = not (is_good p.entries p.len)
+abbrev pub not_a_permutation : Permutation → Bool
+not_a_permutation p = not (is_good p.entries p.len)
 
 unfoldable pub taken_arrangement : Permutation → Says (List ℕ)
-taken_arrangement p = refused_if (too_long p.len) 1 (refused_if (not_aPermutation p) 10 (gives (arrangement_of p)))
+taken_arrangement p = refused_if (too_long p.len) 1 (refused_if (not_a_permutation p) 10 (gives (arrangement_of p)))
 
 abbrev pub image_says : Permutation → ℕ → Says ℕ
 image_says p i = and_then (taken_arrangement p) (λ w. refused_if (leb p.len i) 7 (gives (get_or w i 0)))

@@ -29,7 +29,7 @@ use Rattle.answers.proofs.Signs.{sign_of_parity, times_of_sum}
 use Rattle.permutation.specs.declared.Permutation.{Permutation}
 use Rattle.permutation.specs.declared.Arranged.{Arranged}
 use Rattle.permutation.specs.Record.{capacity, arrangement_of, record_of, Whole, GoodRecord, Agree, Arranges}
-use Rattle.permutation.specs.Rules.{too_long, is_good, not_aPermutation, taken_arrangement}
+use Rattle.permutation.specs.Rules.{too_long, is_good, not_a_permutation, taken_arrangement}
 use Rattle.permutation_group.specs.Rules.{inverse_says, compose_says, sign_says}
 use Rattle.permutation.proofs.Taken.{tested_holds, holds_good, taken_holds, holds_taken}
 use Rattle.permutation.proofs.Arranging.{word_of_record, record_holds, arranged_is_whole}
@@ -52,8 +52,8 @@ compose_given p q l m w e =
     let a = passed (too_long p.len) 1 _ w e in
     let b = passed (too_long q.len) 1 _ w a.1 in
     let c = passed (not (eqb p.len q.len)) 8 _ w b.1 in
-    let d = passed (not_aPermutation p) 10 _ w c.1 in
-    let f = passed (not_aPermutation q) 10 (gives (compose (arrangement_of p) (arrangement_of q))) w d.1 in
+    let d = passed (not_a_permutation p) 10 _ w c.1 in
+    let f = passed (not_a_permutation q) 10 (gives (compose (arrangement_of p) (arrangement_of q))) w d.1 in
     record {
       left = tested_holds p l (ltb-false capacity p.len a.0) (not-false (is_good p.entries p.len) d.0);
       right = tested_holds q m (ltb-false capacity q.len b.0) (not-false (is_good q.entries q.len) f.0);

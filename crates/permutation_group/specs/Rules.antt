@@ -9,7 +9,7 @@ use Rattle.answers.specs.Says.{Says, gives, refused_if, and_then}
 use Rattle.answers.specs.Signs.{sign_of}
 use Rattle.permutation.specs.declared.Permutation.{Permutation}
 use Rattle.permutation.specs.Record.{arrangement_of}
-use Rattle.permutation.specs.Rules.{too_long, not_aPermutation, taken_arrangement}
+use Rattle.permutation.specs.Rules.{too_long, not_a_permutation, taken_arrangement}
 
 abbrev pub inverse_says : Permutation → Says (List ℕ)
 inverse_says p = and_then (taken_arrangement p) (λ w. gives (inverse w))
@@ -19,8 +19,8 @@ compose_says p q =
     refused_if (too_long p.len) 1
     (refused_if (too_long q.len) 1
     (refused_if (not (eqb p.len q.len)) 8
-    (refused_if (not_aPermutation p) 10
-    (refused_if (not_aPermutation q) 10
+    (refused_if (not_a_permutation p) 10
+    (refused_if (not_a_permutation q) 10
     (gives (compose (arrangement_of p) (arrangement_of q)))))))
 
 abbrev pub sign_says : Permutation → Says Sign

@@ -8,7 +8,7 @@ ghost use Rattle.answers.specs.Says.{answer_says};
 ghost use Rattle.arrangements.specs.Rank.{arrangement_rank, raise, lastly, arrangement_unrank};
 ghost use Rattle.arrangements.specs.Step.{FirstFall, FirstGreater, turn, exchange, step};
 ghost use Rattle.permutation.specs.Record.{capacity, arrangement_of, record_of, GoodRecord, verdict_says, Arranges};
-ghost use Rattle.permutation_order.specs.Rules.{longest_numbered, held, numbered as numberedOf, arrangement_rank_says, arrangement_unrank_says, arrangement_successor_says};
+ghost use Rattle.permutation_order.specs.Rules.{longest_numbered, held, numbered as numbered_of, arrangement_rank_says, arrangement_unrank_says, arrangement_successor_says};
 
 use answers::{Answer, Refusal};
 use permutation::{Arranged, CAPACITY, Permutation, Verdict};
@@ -18,7 +18,7 @@ pub const LONGEST: u64 = 20;
 
 // 1 if the length is above those that are numbered; 1 and 10 of the record.
 fn numbered(p: Permutation) -> Verdict
-    ensures { verdict_says result (arrangement_of p) ≡ numberedOf p }
+    ensures { verdict_says result (arrangement_of p) ≡ numbered_of p }
 {
     let n = p.len;
     if n > LONGEST {

@@ -2,7 +2,6 @@
 // function that puts two or three parts is proved sooner than one that puts ten.
 #![tactic(auto)]
 
-
 // A text, and a number behind it.
 pub fn with_number(out: &mut [u8], at: usize, before: &[u8], n: u64) -> usize {
     let at = text::put(out, at, before);

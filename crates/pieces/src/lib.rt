@@ -4,7 +4,7 @@
 ghost use Rattle.std.specs.Prelude.{◌≡◌, length};
 ghost use Rattle.std.proofs.Math.Seq.{paste};
 ghost use Rattle.image_rules.specs.Image.{check_says};
-ghost use Rattle.pieces.specs.Pieces.{room as room_of, more as moreOf, told, ended, start as start_of, fed, closed};
+ghost use Rattle.pieces.specs.Pieces.{room as room_of, more as more_of, told, ended, start as start_of, fed, closed};
 
 use answers::Answer;
 
@@ -36,7 +36,7 @@ fn room(at: u64, n: u64) -> u64
 
 // How many bytes have been seen after n more, and 65,537 for every number above 65,536.
 fn more(seen: u64, n: u64) -> u64
-    ensures { result ≡ moreOf seen n }
+    ensures { result ≡ more_of seen n }
 {
     if 65536 < seen {
         return 65537;

@@ -3,7 +3,7 @@
 #![tactic(auto)]
 
 ghost use Rattle.std.specs.Prelude.{◌≡◌, ◌-◌, ◌≤◌, ◌<◌, length};
-ghost use Rattle.words.specs.Next.{highest as highestOf, base as base_of};
+ghost use Rattle.words.specs.Next.{highest as highest_of, base as base_of};
 ghost use Rattle.answers.specs.Says.{after, gives};
 ghost use Rattle.raising.specs.Raised.{Raise, CanWrite, raised_at, next_at};
 
@@ -18,7 +18,7 @@ fn less(n: u64, m: u64) -> u64
 
 // The greatest symbol that can stand d places below the top of a word over n.
 fn highest(family: Family, n: u64, d: u64) -> u64
-    ensures { result ≡ highestOf family n d }
+    ensures { result ≡ highest_of family n d }
 {
     let top = less(n, 1);
     match family {

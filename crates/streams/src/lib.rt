@@ -1,32 +1,51 @@
 // Standard input and output in blocks, through buffers that the caller lends.
 #![tactic(auto)]
 
-ghost use Rattle.std.specs.Prelude.{◌+◌, ◌≤◌, length};
+ghost use Rattle.std.specs.Prelude.{◌+◌, ◌≤◌, length, IfOk};
+
+use std::io;
+use std::io::Read;
 
 // Reads once from standard input into a lent buffer, and answers how many bytes came: 0 at the end of the input.
-pub fn read_some(buffer: &mut [u8]) -> usize
-    ensures { result ≤ length buffer.new }
+pub fn read_some(rt: &impl Input, buffer: &mut [u8]) -> io::Result<usize>
+    ensures { IfOk result (λ n. n ≤ length buffer.new) }
 {
-    let got = libc::read(0, buffer);
-    io::count(got, buffer)
+    let mut from = rt.reader();
+    from.read(buffer)
+}
+
+// Reads from standard input until a lent buffer is full or the input ends, and answers how many bytes came.
+pub fn read_full(rt: &impl Input, buffer: &mut [u8]) -> io::Result<usize>
+    ensures { IfOk result (λ n. n ≤ length buffer.new) }
+{
+    let mut n = 0;
+    while n < buffer.len() {
+        let k = read_some(rt, &mut buffer[n..])?;
+        if k == 0 {
+            return Ok(n);
+        }
+        n += k;
+    }
+    Ok(n)
 }
 
 // Writes the first `at` bytes of a buffer to standard output.
-pub fn flush(out: &[u8], at: usize) {
+pub fn flush(rt: &impl Print, out: &[u8], at: usize) -> io::Result<()> {
     if at <= out.len() {
-        io::write_all(1, &out[0..at]);
+        rt.write_all(&out[0..at])?;
     }
+    Ok(())
 }
 
 // The place where the next `room` bytes go: `at`, or 0 after the buffer is written out where they would not fit after `at`.
-pub fn with_room(out: &[u8], at: usize, room: usize) -> usize
-    ensures { room ≤ length out.now → result + room ≤ length out.now }
+pub fn with_room(rt: &impl Print, out: &[u8], at: usize, room: usize) -> io::Result<usize>
+    ensures { IfOk result (λ to. room ≤ length out.now → to + room ≤ length out.now) }
 {
     if at <= out.len() {
         if room <= out.len() - at {
-            return at;
+            return Ok(at);
         }
     }
-    flush(out, at);
-    0
+    flush(rt, out, at)?;
+    Ok(0)
 }

@@ -3,7 +3,7 @@
 
 ghost use Rattle.std.specs.Prelude.{◌≡◌, false, ◌≤◌, ltb};
 ghost use Rattle.words.specs.Word.{shifted_alphabet};
-ghost use Rattle.taking.specs.Taken.{shifted_alphabet_of as top_of, too_wide, outside as outsideOf, verdict_of, verdict_of_both};
+ghost use Rattle.taking.specs.Taken.{shifted_alphabet_of as top_of, too_wide, outside as outside_of, verdict_of, verdict_of_both};
 
 use answers::{Index, Refusal};
 use words::Family;
@@ -62,7 +62,7 @@ fn wide(x: Index) -> bool
 // Whether a symbol of the word is not below the record's alphabet. That is so exactly if a bit stands at its shifted alphabet or above.
 pub fn outside(x: Index) -> bool
     requires { too_wide x ≡ false }
-    ensures { result ≡ outsideOf x }
+    ensures { result ≡ outside_of x }
 {
     let top = top(x);
     bits::reaches(x.bits, top)

@@ -1,6 +1,8 @@
 #![tactic(auto)]
 
+use std::io;
+
 // Document 01's program.
-fn main() {
-    terms_input::run();
+fn main(rt: HostRuntime) -> io::Result<()> {
+    terms_input::run(&rt)
 }

@@ -3,6 +3,7 @@
 
 use answers::{Answer, Index, Refusal};
 use monotone_walk::{Started, Stepped, Walk};
+use std::io;
 use terms_line::Line;
 use words::Family;
 
@@ -47,61 +48,67 @@ pub fn put_symbols(out: &mut [u8], at: usize, word: &[u64], k: u64) -> usize {
 }
 
 // The line of one word: its rank, a colon, and its symbols. One of 64 symbols takes fewer than 512 bytes.
-fn put_word(out: &mut [u8], at: usize, r: u64, x: Index) -> usize {
+fn put_word(rt: &impl Print, out: &mut [u8], at: usize, r: u64, x: Index) -> io::Result<usize> {
     let mut word = [0u64; 64];
     let Answer::Is(k) = monotone::unpack(x, &mut word) else {
-        return at;
+        return Ok(at);
     };
-    let at = streams::with_room(out, at, 512);
+    let at = streams::with_room(rt, out, at, 512)?;
     let at = text::put_number(out, at, r);
     let at = text::put_byte(out, at, b':');
     let at = put_symbols(out, at, &word, k);
-    text::put_byte(out, at, b'\n')
+    Ok(text::put_byte(out, at, b'\n'))
 }
 
 // A line for each step of the walk, of which there are `count`.
-fn put_words(out: &mut [u8], at: usize, walk: Walk, count: u64) -> usize {
+fn put_words(
+    rt: &impl Print,
+    out: &mut [u8],
+    at: usize,
+    walk: Walk,
+    count: u64,
+) -> io::Result<usize> {
     let mut to = at;
     let mut w = walk;
     let mut r = 0;
     while r < count {
         let Stepped::Step(x, next) = monotone_walk::step(w) else {
-            return to;
+            return Ok(to);
         };
-        to = put_word(out, to, r, x);
+        to = put_word(rt, out, to, r, x)?;
         w = next;
         r += 1;
     }
-    to
+    Ok(to)
 }
 
 // The words of a family, if there are 4,096 or fewer, after the header.
-fn put_terms(out: &mut [u8], f: Family, n: u64, k: u64) -> usize {
+fn put_terms(rt: &impl Print, out: &mut [u8], f: Family, n: u64, k: u64) -> io::Result<usize> {
     match monotone_count::count(f, n, k) {
         Answer::Is(count) => {
             let at = put_header(out, 0, f, n, k, count);
             if count > 4096 {
-                return at;
+                return Ok(at);
             }
             let Started::Walk(w) = monotone_count::start(f, n, k) else {
-                return at;
+                return Ok(at);
             };
-            put_words(out, at, w, count)
+            put_words(rt, out, at, w, count)
         }
-        Answer::Refused(e) => put_refusal(out, 0, e),
+        Answer::Refused(e) => Ok(put_refusal(out, 0, e)),
     }
 }
 
-fn put_answer(out: &mut [u8], held: &[u8]) -> usize {
+fn put_answer(rt: &impl Print, out: &mut [u8], held: &[u8]) -> io::Result<usize> {
     match terms_line::first(held) {
-        Line::Words(f, n, k) => put_terms(out, f, n, k),
-        Line::Bad => text::put(out, 0, b"bad line\n"),
+        Line::Words(f, n, k) => put_terms(rt, out, f, n, k),
+        Line::Bad => Ok(text::put(out, 0, b"bad line\n")),
     }
 }
 
 // Writes to standard output what the program answers to the first line of an input, of which the first bytes are held.
-pub fn answer(held: &[u8]) {
-    let mut out = io::buffer();
-    let at = put_answer(&mut out, held);
-    streams::flush(&out, at);
+pub fn answer(rt: &impl Print, held: &[u8]) -> io::Result<()> {
+    let mut out = [0u8; 4096];
+    let at = put_answer(rt, &mut out, held)?;
+    streams::flush(rt, &out, at)
 }

@@ -1,20 +1,23 @@
 #![tactic(auto)]
 
+use std::io;
+
 // Runs the work of the program `terms` on every line of its input, so that the gate holds each kind of line to what is written for it.
-fn answer_each(input: &[u8]) {
+fn answer_each(rt: &impl Print, input: &[u8]) -> io::Result<()> {
     let mut at = 0;
     while at < input.len() {
         let end = text::find(input, at, b'\n');
-        terms_answer::answer(&input[at..end]);
+        terms_answer::answer(rt, &input[at..end])?;
         at = end;
         if at < input.len() {
             at += 1;
         }
     }
+    Ok(())
 }
 
-fn main() {
-    let mut buffer = io::large_buffer();
-    let n = io::read_full(0, &mut buffer);
-    answer_each(&buffer[..n]);
+fn main(rt: HostRuntime) -> io::Result<()> {
+    let mut buffer = [0u8; 65536];
+    let n = streams::read_full(&rt, &mut buffer)?;
+    answer_each(&rt, &buffer[..n])
 }

@@ -3,6 +3,7 @@ use Rattle.std.proofs.Common.{◌≡◌, ℕ, ◌-◌, eqb, List, get_or, drop, 
 use borrow.Author.Tests.{not-false}
 use Rattle.words.specs.Bits.{ones_from, set_bits}
 use Rattle.bits.proofs.nth.Goals as goal
+use Rattle.bits.proofs.nth.Goals.{then-loop-i-test+else-left-ne0, else-loop-i-test}
 
 pub loop-i-init : goal.loop-i-init
 loop-i-init c = (omega arith, refl)
@@ -21,10 +22,13 @@ returns c =
     let p : ℕ = c.args.p in
     let left : ℕ = c.loop-i.left in
     let i : ℕ = c.loop-i.i in
-    c.lowest.ensures
-    ∙ ⊎_elim
-    (λ h. let z : left ≡ 0 = eqb-true left 0 (not-false (eqb left 0) h.1.left) in ap (λ (b : ℕ). get_or (set_bits b) 0 64) z ∙ sym (ap (λ (b : ℕ). get_or (set_bits b) (p - i) 64) z))
-    (λ h. ap (λ (k : ℕ). get_or (set_bits left) k 64) (omega arith))
-    c.loop-i-test.branch
+    let same : get_or (set_bits left) 0 64 ≡ get_or (set_bits left) (p - i) 64 =
+    elim c.loop-i-test.branch [
+      | then-loop-i-test+else-left-ne0 w ↦
+          let z : left ≡ 0 = omega arith in
+          ap (λ (b : ℕ). get_or (set_bits b) 0 64) z ∙ sym (ap (λ (b : ℕ). get_or (set_bits b) (p - i) 64) z)
+      | else-loop-i-test w ↦ ap (λ (k : ℕ). get_or (set_bits left) k 64) (omega arith)
+    ] in
+    c.lowest.ensures ∙ same
     ∙ ap (λ (w : List ℕ). get_or w (p - i) 64) c.loop-i.invariant.1 ∙ get_or-drop i (set_bits a) (p - i) 64
     ∙ ap (λ (k : ℕ). get_or (set_bits a) k 64) (omega arith)

@@ -3,7 +3,7 @@ use mathlib.Core.Path.{refl}
 use Rattle.boundary_frames.proofs.massed.Goals as goal
 
 pub returns-in-Is : goal.returns-in-Is
-returns-in-Is c = simp (c.in-Is.is, c.answer.ensures) (refl, refl)
+returns-in-Is c = simp (c.in-Is.is, c.answer.ensures) record { back = refl; holds = refl }
 
 pub returns-in-Refused : goal.returns-in-Refused
-returns-in-Refused c = simp (c.in-Refused.is, c.refused.ensures) (refl, refl)
+returns-in-Refused c = simp (c.in-Refused.is, c.refused.ensures) record { back = refl; holds = refl }

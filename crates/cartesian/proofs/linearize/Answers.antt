@@ -14,17 +14,16 @@ pub returns-then-digits-radices : goal.returns-then-digits-radices
 returns-then-digits-radices c = simp (le-ltb _ _ c.if-radices-gt16.false, ne_eqb _ _ c.if-digits-radices.true)
 
 pub returns-then-not-within : goal.returns-then-not-within
-returns-then-not-within c = simp (le-ltb _ _ c.if-radices-gt16.false, eq-eqb _ _ c.if-digits-radices.false, sym c.within.ensures ∙ not-true _ c.if-not-within.true)
+returns-then-not-within c = simp (le-ltb _ _ c.if-radices-gt16.false, eq-eqb _ _ c.if-digits-radices.false, sym c.within.ensures ∙ c.if-not-within.true)
 
 pub returns-in_default : goal.returns-in_default
-returns-in_default c = simp (le-ltb _ _ c.if-radices-gt16.false, eq-eqb _ _ c.if-digits-radices.false, sym c.within.ensures ∙ not-false _ c.if-not-within.false, sym c.size-a.ensures, c.in_default.is)
+returns-in_default c = simp (le-ltb _ _ c.if-radices-gt16.false, eq-eqb _ _ c.if-digits-radices.false, sym c.within.ensures ∙ c.if-not-within.false, sym c.size-a.ensures, c.in_default.is)
 
 pub number-requires : goal.number-requires
-number-requires c =
-    (
-      (within_is_digits c.args.radices.now c.args.digits.now c.if-digits-radices.false).0 (sym c.within.ensures ∙ not-false _ c.if-not-within.false),
-      (fits_given (product c.args.radices.now) _ (sym c.size-a.ensures ∙ ap answer_says c.in-Is.is)).0,
-    )
+number-requires c = (
+  (within_is_digits c.args.radices.now c.args.digits.now c.if-digits-radices.false).0 (sym c.within.ensures ∙ c.if-not-within.false),
+  (fits_given (product c.args.radices.now) _ (sym c.size-a.ensures ∙ ap answer_says c.in-Is.is)).0,
+)
 
 pub returns : goal.returns
-returns c = simp (le-ltb _ _ c.if-radices-gt16.false, eq-eqb _ _ c.if-digits-radices.false, sym c.within.ensures ∙ not-false _ c.if-not-within.false, sym c.size-a.ensures, c.in-Is.is, c.number.ensures)
+returns c = simp (le-ltb _ _ c.if-radices-gt16.false, eq-eqb _ _ c.if-digits-radices.false, sym c.within.ensures ∙ c.if-not-within.false, sym c.size-a.ensures, c.in-Is.is, c.number.ensures)

@@ -20,15 +20,14 @@ pub bounds-radices-i : goal.bounds-radices-i
 bounds-radices-i c = omega arith
 
 pub past-requires : goal.past-requires
-past-requires c =
-    (
-      omega arith,
-      omega (
-        arith,
-        leb-true (2 ^ 64) (c.loop-i.product * get_or c.args.radices.now (c.loop-i.i - 1) 0) (sym c.exceeds.ensures ∙ c.if-exceeds.true),
-        falling_turn c.args.radices.now c.loop-i.product c.loop-i.i c.loop-i.invariant.1 (omega arith) c.loop-i.invariant.0,
-      ),
-    )
+past-requires c = (
+  omega arith,
+  omega (
+    arith,
+    leb-true (2 ^ 64) (c.loop-i.product * get_or c.args.radices.now (c.loop-i.i - 1) 0) (sym c.exceeds.ensures ∙ c.if-exceeds.true),
+    falling_turn c.args.radices.now c.loop-i.product c.loop-i.i c.loop-i.invariant.1 (omega arith) c.loop-i.invariant.0,
+  ),
+)
 
 pub returns-then-exceeds : goal.returns-then-exceeds
 returns-then-exceeds c = c.past.ensures
@@ -41,12 +40,11 @@ pub loop-i-smaller : goal.loop-i-smaller
 loop-i-smaller c = omega arith
 
 pub loop-i-preserved : goal.loop-i-preserved
-loop-i-preserved c =
-    (
-      omega arith,
-      falling_turn c.args.radices.now c.loop-i.product c.loop-i.i c.loop-i.invariant.1 (omega arith) c.loop-i.invariant.0,
-      leb-false (2 ^ 64) (c.loop-i.product * get_or c.args.radices.now (c.loop-i.i - 1) 0) (sym c.exceeds.ensures ∙ c.if-exceeds.false),
-    )
+loop-i-preserved c = (
+  omega arith,
+  falling_turn c.args.radices.now c.loop-i.product c.loop-i.i c.loop-i.invariant.1 (omega arith) c.loop-i.invariant.0,
+  leb-false (2 ^ 64) (c.loop-i.product * get_or c.args.radices.now (c.loop-i.i - 1) 0) (sym c.exceeds.ensures ∙ c.if-exceeds.false),
+)
 
 pub returns : goal.returns
 returns c =

@@ -13,6 +13,7 @@ use Rattle.positional.specs.Positional.{stride}
 use Rattle.answers.specs.Says.{answer_says}
 use Rattle.cartesian_strides.proofs.Corners.{Summing, summing_starts, summing_turn, summing_ends, axis_chosen, axis_left_out}
 use Rattle.cartesian_strides.proofs.corner.Goals as goal
+use Rattle.cartesian_strides.proofs.corner.Goals.{then-left-eq1, else-left-eq1}
 
 pub returns-then-radices-gt16 : goal.returns-then-radices-gt16
 returns-then-radices-gt16 c = simp (lt-ltb _ _ c.if-radices-gt16.true)
@@ -38,10 +39,10 @@ loop-i-smaller c = omega arith
 pub loop-i-preserved : goal.loop-i-preserved
 loop-i-preserved c =
     summing_turn c.args.radices.now c.args.axes (answer_says c.loop-i.sum) (answer_says c.loop-i.stride) (answer_says c.if-left-eq1.sum) (answer_says c.times-stride.result) c.loop-i.left c.loop-i.i c.loop-i.invariant (omega arith)
-    (λ m e. ⊎_elim
-    (λ w. ap answer_says w.2 ∙ w.1.ensures m (stride c.args.radices.now c.loop-i.i) e c.loop-i.invariant.grown ∙ axis_chosen c.loop-i.left m (stride c.args.radices.now c.loop-i.i) w.0.taken)
-    (λ w. ap answer_says w.1 ∙ e ∙ axis_left_out c.loop-i.left m (stride c.args.radices.now c.loop-i.i) w.0.left)
-    c.if-left-eq1.branch)
+    (λ m e. elim c.if-left-eq1.branch [
+      | then-left-eq1 w ↦ ap answer_says w.sum-is ∙ w.plus-sum.ensures m (stride c.args.radices.now c.loop-i.i) e c.loop-i.invariant.grown ∙ axis_chosen c.loop-i.left m (stride c.args.radices.now c.loop-i.i) w.if-left-eq1.true
+      | else-left-eq1 w ↦ ap answer_says w.sum-is ∙ e ∙ axis_left_out c.loop-i.left m (stride c.args.radices.now c.loop-i.i) w.if-left-eq1.false
+    ])
     c.times-stride.ensures
 
 pub returns : goal.returns

@@ -9,6 +9,7 @@ use Rattle.positional.proofs.Strides.{stride_next}
 use Rattle.cartesian_strides.proofs.Products.{stride_fits}
 use Rattle.cartesian_strides.proofs.Writing.{Striding, striding_starts, striding_turn, striding_ends}
 use Rattle.cartesian_strides.proofs.write_strides.Goals as goal
+use Rattle.cartesian_strides.proofs.write_strides.Goals.{then-i-radices, else-i-radices}
 
 pub loop-i-init : goal.loop-i-init
 loop-i-init c = striding_starts c.args.radices.now c.args.out.now
@@ -41,7 +42,7 @@ loop-i-smaller c = omega arith
 
 pub loop-i-preserved : goal.loop-i-preserved
 loop-i-preserved c =
-    striding_turn c.args.radices.now c.args.out.now c.loop-i.out c.loop-i.stride c.if-i-radices.stride c.loop-i.i c.loop-i.invariant (omega arith) c.requires.1 (λ h. ⊎_elim (λ w. omega arith) (λ w. omega arith) c.if-i-radices.branch)
+    striding_turn c.args.radices.now c.args.out.now c.loop-i.out c.loop-i.stride c.if-i-radices.stride c.loop-i.i c.loop-i.invariant (omega arith) c.requires.1 (λ h. elim c.if-i-radices.branch [ then-i-radices w ↦ omega arith | else-i-radices w ↦ omega arith ])
 
 pub shape_of-out : goal.shape_of-out
 shape_of-out c = c.loop-i.invariant.filled.long

@@ -7,6 +7,7 @@ use Rattle.words.specs.Bits.{set_bits}
 use Rattle.bits.specs.Member.{reaches}
 use Rattle.combination.proofs.Selecting.{Selecting, selecting_starts, rest-within, rest-shorter, selecting-turn, selecting-skips, selecting-ends}
 use Rattle.combination.proofs.select.Goals as goal
+use Rattle.combination.proofs.select.Goals.{then-wanted-eq1, else-wanted-eq1}
 
 pub returns-then-reaches : goal.returns-then-reaches
 returns-then-reaches c = simp (sym c.count_ones.ensures, sym c.reaches.ensures, c.if-reaches.true)
@@ -26,10 +27,10 @@ pub loop-wanted-smaller : goal.loop-wanted-smaller
 loop-wanted-smaller c = rest-shorter c.loop-wanted.invariant c.without_lowest-rest.result (omega arith) c.without_lowest-rest.ensures
 
 pub loop-wanted-preserved : goal.loop-wanted-preserved
-loop-wanted-preserved c = ⊎_elim
-    (λ w. subst (Selecting _ _ _ _) (sym w.1) (selecting-turn c.loop-wanted.invariant c.without_lowest-rest.result (omega arith) c.without_lowest-rest.ensures w.0.taken))
-    (λ w. subst (Selecting _ _ _ _) (sym w.1) (selecting-skips c.loop-wanted.invariant c.without_lowest-rest.result (omega arith) c.without_lowest-rest.ensures w.0.left))
-    c.if-wanted-eq1.branch
+loop-wanted-preserved c = elim c.if-wanted-eq1.branch [
+  | then-wanted-eq1 w ↦ subst (Selecting _ _ _ _) (sym w.chosen-is) (selecting-turn c.loop-wanted.invariant c.without_lowest-rest.result (omega arith) c.without_lowest-rest.ensures w.if-wanted-eq1.true)
+  | else-wanted-eq1 w ↦ subst (Selecting _ _ _ _) (sym w.chosen-is) (selecting-skips c.loop-wanted.invariant c.without_lowest-rest.result (omega arith) c.without_lowest-rest.ensures w.if-wanted-eq1.false)
+]
 
 pub returns : goal.returns
 returns c =

@@ -13,24 +13,21 @@ use Rattle.composition_rank.proofs.from_rank.Goals as goal
 
 pub returns-in_default : goal.returns-in_default
 returns-in_default c =
-    let u : from_rank_says c.args.n c.args.k c.args.r (length c.args.out.now) ≡ refuses_with _ _ = from_rank_refused c.args.n c.args.k c.args.r (length c.args.out.now) _ _ (sym (ap answer_says (c.in_default.is ∙ c.in-Refused.is)) ∙ c.unrank-a.ensures.0) in
-    (sym (ap places_of u), sym (ap (λ s. after s c.args.out.now) u))
+    let u : from_rank_says c.args.n c.args.k c.args.r (length c.args.out.now) ≡ refuses_with _ _ = from_rank_refused c.args.n c.args.k c.args.r (length c.args.out.now) _ _ (sym (ap answer_says (c.in_default.is ∙ c.in-Refused.is)) ∙ c.unrank-a.ensures.says) in
+    record { says = sym (ap places_of u); holds = sym (ap (λ s. after s c.args.out.now) u) }
 
 pub returns-then-out-n : goal.returns-then-out-n
 returns-then-out-n c =
-    let f : Found c.args.n c.args.k c.args.r _ _ = found c.args.n c.args.k c.args.r _ _ _ (sym (ap answer_says c.in-Is.is) ∙ c.unrank-a.ensures.0) c.unrank-a.ensures.1 in
-    simp (f.fits, f.low, lt-ltb _ _ c.if-out-n.true) (refl, refl)
+    let f : Found c.args.n c.args.k c.args.r _ _ = found c.args.n c.args.k c.args.r _ _ _ (sym (ap answer_says c.in-Is.is) ∙ c.unrank-a.ensures.says) c.unrank-a.ensures.holds in
+    simp (f.fits, f.low, lt-ltb _ _ c.if-out-n.true) record { says = refl; holds = refl }
 
 pub slice_bounds-tally-end : goal.slice_bounds-tally-end
-slice_bounds-tally-end c = (found c.before.before.before.before.before.before.before.before.before.args.n c.before.before.before.before.before.before.before.before.before.args.k c.before.before.before.before.before.before.before.before.before.args.r _ _ _ (sym (ap answer_says c.a.given.1) ∙ c.unrank.ensures.0) c.unrank.ensures.1).within
+slice_bounds-tally-end c = (found c.args.n c.args.k c.args.r _ _ _ (sym (ap answer_says c.in-Is.is) ∙ c.unrank-a.ensures.says) c.unrank-a.ensures.holds).within
 
 pub tally-requires : goal.tally-requires
-tally-requires c = (c.if1.false, (found c.before.before.before.before.before.before.before.before.before.before.before.args.n c.before.before.before.before.before.before.before.before.before.before.before.args.k c.before.before.before.before.before.before.before.before.before.before.before.args.r _ _ _ (sym (ap answer_says c.a.given.1) ∙ c.unrank.ensures.0) c.unrank.ensures.1).below)
+tally-requires c = (c.if-out-n.false, (found c.args.n c.args.k c.args.r _ _ _ (sym (ap answer_says c.in-Is.is) ∙ c.unrank-a.ensures.says) c.unrank-a.ensures.holds).below)
 
 pub returns : goal.returns
 returns c =
-    let f : Found c.before.before.before.before.before.before.before.before.before.before.before.before.before.before.args.n c.before.before.before.before.before.before.before.before.before.before.before.before.before.before.args.k c.before.before.before.before.before.before.before.before.before.before.before.before.before.before.args.r _ _ = found c.before.before.before.before.before.before.before.before.before.before.before.before.before.before.args.n c.before.before.before.before.before.before.before.before.before.before.before.before.before.before.args.k c.before.before.before.before.before.before.before.before.before.before.before.before.before.before.args.r _ _ _ (sym (ap answer_says c.a.given.1) ∙ c.unrank.ensures.0) c.unrank.ensures.1 in
-    simp (f.fits, f.low, le-ltb _ _ c.if1.false) (
-      ap gives (sym (tally_long c.before.before.before.before.before.before.before.before.before.before.before.before.before.before.args.n (unrank_of Allowed c.before.before.before.before.before.before.before.before.before.before.before.before.before.before.args.k c.before.before.before.before.before.before.before.before.before.before.before.before.before.before.args.r))),
-      c.tally.ensures ∙ ap (λ w. after (gives (tally c.before.before.before.before.before.before.before.before.before.before.before.before.before.before.args.n w)) c.before.before.before.before.before.before.before.before.before.before.before.before.before.before.args.out.now) f.word,
-    )
+    let f : Found c.args.n c.args.k c.args.r _ _ = found c.args.n c.args.k c.args.r _ _ _ (sym (ap answer_says c.in-Is.is) ∙ c.unrank-a.ensures.says) c.unrank-a.ensures.holds in
+    simp (f.fits, f.low, le-ltb _ _ c.if-out-n.false) record { says = ap gives (sym (tally_long c.args.n (unrank_of Allowed c.args.k c.args.r))); holds = c.tally.ensures ∙ ap (λ w. after (gives (tally c.args.n w)) c.args.out.now) f.word }

@@ -13,7 +13,7 @@ pub spell-requires : goal.spell-requires
 spell-requires c = omega (arith, (degree_fits c.args.entries.now c.degree-k.result c.degree-k.ensures c.if-k-gt64.false).1)
 
 pub returns-in_default : goal.returns-in_default
-returns-in_default c = sym (ap answer_says (c.in_default.is ∙ c.in-Refused.is)) ∙ c.rank-a.ensures ∙ rank_by_word c.before.before.before.before.before.before.before.before.before.before.before.before.before.before.before.args.entries.now _ _ c.degree.result c.degree.ensures c.if1.false c.spell.ensures
+returns-in_default c = sym (ap answer_says (c.in_default.is ∙ c.in-Refused.is)) ∙ c.rank-a.ensures ∙ rank_by_word c.args.entries.now _ _ c.degree-k.result c.degree-k.ensures c.if-k-gt64.false c.spell.ensures
 
 pub returns : goal.returns
-returns c = sym (ap answer_says c.in-Is.is) ∙ c.rank-a.ensures ∙ rank_by_word c.before.before.before.before.before.before.before.before.before.before.before.before.args.entries.now _ _ c.degree.result c.degree.ensures c.if1.false c.spell.ensures
+returns c = sym (ap answer_says c.in-Is.is) ∙ c.rank-a.ensures ∙ rank_by_word c.args.entries.now _ _ c.degree-k.result c.degree-k.ensures c.if-k-gt64.false c.spell.ensures

@@ -14,7 +14,7 @@ loop-q-init c =
     record {
       within = omega arith;
       written = written_none c.args.back c.shifted_alphabet-a.result c.args.k c.args.c c.args.from.now c.args.out.now c.requires.lent;
-      walks = walks_first c.shifted_alphabet-a.result c.args.k c.args.c c.low_mask-bits.result c.wrapping_sub_u64-later.result (c.requires.size ∙ ap (λ (x : ℕ). choose x c.args.k) (sym c.shifted_alphabet-a.ensures)) c.requires.degree c.low_mask-bits.ensures (search rules) c.wrapping_sub_u64-later.ensures;
+      walks = walks_first c.shifted_alphabet-a.result c.args.k c.args.c c.low_mask-bits.result c.wrapping_sub_u64-later.result (c.requires.size ∙ ap (λ (x : ℕ). choose x c.args.k) (sym c.shifted_alphabet-a.ensures)) c.requires.degree c.low_mask-bits.ensures (search rules) c.wrapping_sub_u64-later.ensures.value;
     }
 
 pub place_in-requires : goal.place_in-requires
@@ -26,7 +26,7 @@ place_in-requires-in-loop-q c = later_within c.shifted_alphabet-a.result c.args.
 pub copy_entry-requires : goal.copy_entry-requires
 copy_entry-requires c =
     let l : c.loop-q.later < c.args.c = later_within c.shifted_alphabet-a.result c.args.k c.args.c c.loop-q.q c.loop-q.bits c.loop-q.later (c.requires.size ∙ ap (λ (x : ℕ). choose x c.args.k) (sym c.shifted_alphabet-a.ensures)) c.loop-q-test.true c.loop-q.invariant.walks in (
-      omega (arith, c.IsPlace-in.ensures, place_in_below c.args.back c.args.c c.loop-q.q c.loop-q.later c.loop-q-test.true l, c.requires.given),
+      omega (arith, c.place_in.ensures, place_in_below c.args.back c.args.c c.loop-q.q c.loop-q.later c.loop-q-test.true l, c.requires.given),
       omega (arith, c.place_in-in-loop-q.ensures, place_in_below (not c.args.back) c.args.c c.loop-q.q c.loop-q.later c.loop-q-test.true l, c.loop-q.invariant.written.long),
     )
 
@@ -43,7 +43,7 @@ pub loop-q-preserved-then-q-c : goal.loop-q-preserved-then-q-c
 loop-q-preserved-then-q-c c =
     record {
       within = omega (arith, c.loop-q-test.true);
-      written = written_more c.args.back c.shifted_alphabet-a.result c.args.k c.args.c c.args.from.now c.loop-q.out _ c.loop-q.q c.IsPlace-in.result c.place_in-in-loop-q.result c.requires.given (c.requires.size ∙ ap (λ (x : ℕ). choose x c.args.k) (sym c.shifted_alphabet-a.ensures)) c.loop-q-test.true (c.IsPlace-in.ensures ∙ ap (place_in c.args.back c.args.c c.loop-q.q) (c.loop-q.invariant.walks.many c.loop-q-test.true)) (c.place_in-in-loop-q.ensures ∙ ap (place_in (not c.args.back) c.args.c c.loop-q.q) (c.loop-q.invariant.walks.many c.loop-q-test.true)) c.copy_entry.ensures c.loop-q.invariant.written;
+      written = written_more c.args.back c.shifted_alphabet-a.result c.args.k c.args.c c.args.from.now c.loop-q.out _ c.loop-q.q c.place_in.result c.place_in-in-loop-q.result c.requires.given (c.requires.size ∙ ap (λ (x : ℕ). choose x c.args.k) (sym c.shifted_alphabet-a.ensures)) c.loop-q-test.true (c.place_in.ensures ∙ ap (place_in c.args.back c.args.c c.loop-q.q) (c.loop-q.invariant.walks.many c.loop-q-test.true)) (c.place_in-in-loop-q.ensures ∙ ap (place_in (not c.args.back) c.args.c c.loop-q.q) (c.loop-q.invariant.walks.many c.loop-q-test.true)) c.copy_entry.ensures c.loop-q.invariant.written;
       walks = walks_on c.shifted_alphabet-a.result c.args.k c.args.c c.loop-q.q c.loop-q.bits c.loop-q.later c.successor-bits.result c.next_later-later.result (c.requires.size ∙ ap (λ (x : ℕ). choose x c.args.k) (sym c.shifted_alphabet-a.ensures)) (omega (arith, c.requires.narrow, c.shifted_alphabet-a.ensures)) (omega (arith, c.if-q-c.true)) c.loop-q.invariant.walks c.successor-bits.ensures c.next_later-later.ensures;
     }
 
@@ -54,7 +54,7 @@ pub loop-q-preserved : goal.loop-q-preserved
 loop-q-preserved c =
     record {
       within = omega (arith, c.loop-q-test.true);
-      written = written_more c.args.back c.shifted_alphabet-a.result c.args.k c.args.c c.args.from.now c.loop-q.out _ c.loop-q.q c.IsPlace-in.result c.place_in-in-loop-q.result c.requires.given (c.requires.size ∙ ap (λ (x : ℕ). choose x c.args.k) (sym c.shifted_alphabet-a.ensures)) c.loop-q-test.true (c.IsPlace-in.ensures ∙ ap (place_in c.args.back c.args.c c.loop-q.q) (c.loop-q.invariant.walks.many c.loop-q-test.true)) (c.place_in-in-loop-q.ensures ∙ ap (place_in (not c.args.back) c.args.c c.loop-q.q) (c.loop-q.invariant.walks.many c.loop-q-test.true)) c.copy_entry.ensures c.loop-q.invariant.written;
+      written = written_more c.args.back c.shifted_alphabet-a.result c.args.k c.args.c c.args.from.now c.loop-q.out _ c.loop-q.q c.place_in.result c.place_in-in-loop-q.result c.requires.given (c.requires.size ∙ ap (λ (x : ℕ). choose x c.args.k) (sym c.shifted_alphabet-a.ensures)) c.loop-q-test.true (c.place_in.ensures ∙ ap (place_in c.args.back c.args.c c.loop-q.q) (c.loop-q.invariant.walks.many c.loop-q-test.true)) (c.place_in-in-loop-q.ensures ∙ ap (place_in (not c.args.back) c.args.c c.loop-q.q) (c.loop-q.invariant.walks.many c.loop-q-test.true)) c.copy_entry.ensures c.loop-q.invariant.written;
       walks = walks-past c.shifted_alphabet-a.result c.args.k c.args.c (c.loop-q.q + 1) c.loop-q.bits c.loop-q.later (omega (arith, c.if-q-c.false));
     }
 

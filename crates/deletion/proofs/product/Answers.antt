@@ -7,6 +7,8 @@ use borrow.Author.Rules.{rules}
 use borrow.Author.Tests.{le-leb, lt-leb}
 use Rattle.deletion.proofs.Multiplying.{multiplied_starts, place, few, occurs-here, multiplied-turn, multiplied-past, multiplied_ends, too_big_lem, small-enough}
 use Rattle.deletion.proofs.product.Goals as goal
+use Rattle.std.proofs.Common.{inl, inr}
+use Rattle.deletion.proofs.product.Goals.{then-symbol-previous, else-symbol-previous}
 
 pub loop-left-init : goal.loop-left-init
 loop-left-init c = multiplied_starts c.args.x.family c.args.x.bits
@@ -18,17 +20,17 @@ pub overflow_add-run : goal.overflow_add-run
 overflow_add-run c = omega (arith, few c.loop-left.invariant (omega arith) c.lowest.ensures c.shift.ensures 64 (search rules), c.loop-left.invariant.running.short)
 
 pub nonzero_div-run : goal.nonzero_div-run
-nonzero_div-run c = let o = occurs-here c.loop-left.invariant (omega arith) c.lowest.ensures c.shift.ensures (⊎_map (λ w. (w.0.taken, w.1)) (λ w. (w.0.left, w.1)) c.if-symbol-previous.branch) in omega (arith, o.times)
+nonzero_div-run c = let o = occurs-here c.loop-left.invariant (omega arith) c.lowest.ensures c.shift.ensures (elim c.if-symbol-previous.branch [ then-symbol-previous w ↦ inl (w.if-symbol-previous.true, w.run-is) | else-symbol-previous w ↦ inr (w.if-symbol-previous.false, w.run-is) ]) in omega (arith, o.times)
 
 pub returns-then-run-product : goal.returns-then-run-product
 returns-then-run-product c =
-    let o = occurs-here c.loop-left.invariant (omega arith) c.lowest.ensures c.shift.ensures (⊎_map (λ w. (w.0.taken, w.1)) (λ w. (w.0.left, w.1)) c.if-symbol-previous.branch) in
+    let o = occurs-here c.loop-left.invariant (omega arith) c.lowest.ensures c.shift.ensures (elim c.if-symbol-previous.branch [ then-symbol-previous w ↦ inl (w.if-symbol-previous.true, w.run-is) | else-symbol-previous w ↦ inr (w.if-symbol-previous.false, w.run-is) ]) in
     let h = multiplied-past c.loop-left.invariant o (omega (arith, too_big_lem 18446744073709551615 c.if-symbol-previous.run c.loop-left.product (omega (arith, o.times)) c.if-run-product.true)) in
     simp (le-leb _ _ h)
 
 pub overflow_mul-product : goal.overflow_mul-product
 overflow_mul-product c =
-    let o = occurs-here c.loop-left.invariant (omega arith) c.lowest.ensures c.shift.ensures (⊎_map (λ w. (w.0.taken, w.1)) (λ w. (w.0.left, w.1)) c.if-symbol-previous.branch) in
+    let o = occurs-here c.loop-left.invariant (omega arith) c.lowest.ensures c.shift.ensures (elim c.if-symbol-previous.branch [ then-symbol-previous w ↦ inl (w.if-symbol-previous.true, w.run-is) | else-symbol-previous w ↦ inr (w.if-symbol-previous.false, w.run-is) ]) in
     omega (arith, small-enough 18446744073709551615 c.if-symbol-previous.run c.loop-left.product (omega (arith, o.times)) c.if-run-product.false)
 
 pub overflow_add-i : goal.overflow_add-i
@@ -39,7 +41,7 @@ loop-left-smaller c = omega (arith, (place c.loop-left.invariant (omega arith) c
 
 pub loop-left-preserved : goal.loop-left-preserved
 loop-left-preserved c =
-    let o = occurs-here c.loop-left.invariant (omega arith) c.lowest.ensures c.shift.ensures (⊎_map (λ w. (w.0.taken, w.1)) (λ w. (w.0.left, w.1)) c.if-symbol-previous.branch) in
+    let o = occurs-here c.loop-left.invariant (omega arith) c.lowest.ensures c.shift.ensures (elim c.if-symbol-previous.branch [ then-symbol-previous w ↦ inl (w.if-symbol-previous.true, w.run-is) | else-symbol-previous w ↦ inr (w.if-symbol-previous.false, w.run-is) ]) in
     multiplied-turn c.loop-left.invariant (omega arith) c.lowest.ensures c.shift.ensures c.without_lowest-left.result o c.without_lowest-left.ensures
     (omega (arith, small-enough 18446744073709551615 c.if-symbol-previous.run c.loop-left.product (omega (arith, o.times)) c.if-run-product.false))
 

@@ -17,7 +17,7 @@ use Rattle.derivative.proofs.Passes.{Narrow, narrow, can_derive}
 use Rattle.derivative.proofs.derivative.Goals as goal
 
 pub returns-then-k-gt64 : goal.returns-then-k-gt64
-returns-then-k-gt64 c = simp (lt-ltb _ _ c.if-k-gt64.true) (refl, refl)
+returns-then-k-gt64 c = simp (lt-ltb _ _ c.if-k-gt64.true) record { says = refl; holds = refl }
 
 pub too_wide-requires : goal.too_wide-requires
 too_wide-requires c = omega (arith, c.if-k-gt64.false)
@@ -26,14 +26,14 @@ pub returns-then-too_wide : goal.returns-then-too_wide
 returns-then-too_wide c =
     let k : ltb 64 c.args.k ≡ false = le-ltb _ _ c.if-k-gt64.false in
     let w : ltb 64 (shifted_alphabet Allowed c.args.n c.args.k) ≡ true = sym c.too_wide.ensures ∙ c.if-too_wide.true in
-    simp (k, w) (refl, refl)
+    simp (k, w) record { says = refl; holds = refl }
 
 pub returns-then-k-eq0 : goal.returns-then-k-eq0
 returns-then-k-eq0 c =
     let k : ltb 64 c.args.k ≡ false = le-ltb _ _ c.if-k-gt64.false in
     let w : ltb 64 (shifted_alphabet Allowed c.args.n c.args.k) ≡ false = sym c.too_wide.ensures ∙ c.if-too_wide.false in
     let z : eqb c.args.k 0 ≡ true = eq-eqb _ _ c.if-k-eq0.true in
-    simp (k, w, z) (refl, refl)
+    simp (k, w, z) record { says = refl; holds = refl }
 
 pub returns-then-n-s : goal.returns-then-n-s
 returns-then-n-s c =
@@ -41,7 +41,7 @@ returns-then-n-s c =
     let w : ltb 64 (shifted_alphabet Allowed c.args.n c.args.k) ≡ false = sym c.too_wide.ensures ∙ c.if-too_wide.false in
     let z : eqb c.args.k 0 ≡ false = ne_eqb _ _ c.if-k-eq0.false in
     let l : leb c.args.n c.args.s ≡ true = le-leb _ _ c.if-n-s.true in
-    simp (k, w, z, l) (refl, refl)
+    simp (k, w, z, l) record { says = refl; holds = refl }
 
 pub size-want-requires : goal.size-want-requires
 size-want-requires c =
@@ -55,7 +55,7 @@ returns-then-have-want c =
     let z : eqb c.args.k 0 ≡ false = ne_eqb _ _ c.if-k-eq0.false in
     let l : leb c.args.n c.args.s ≡ false = lt-leb _ _ c.if-n-s.false in
     let t : eqb (length c.args.table.now) (count Allowed c.args.n c.args.k) ≡ false = subst (λ (x : ℕ). eqb (length c.args.table.now) x ≡ false) c.size-want.ensures (ne_eqb _ _ c.if-have-want.true) in
-    simp (k, w, z, l, t) (refl, refl)
+    simp (k, w, z, l, t) record { says = refl; holds = refl }
 
 pub size-m-requires : goal.size-m-requires
 size-m-requires c =
@@ -70,7 +70,7 @@ returns-then-out-m c =
     let l : leb c.args.n c.args.s ≡ false = lt-leb _ _ c.if-n-s.false in
     let t : eqb (length c.args.table.now) (count Allowed c.args.n c.args.k) ≡ true = eq-eqb _ _ (c.if-have-want.false ∙ c.size-want.ensures) in
     let o : ltb (length c.args.out.now) (count Allowed c.args.n (c.args.k - 1)) ≡ true = subst (λ (x : ℕ). ltb (length c.args.out.now) x ≡ true) c.size-m.ensures (lt-ltb _ _ c.if-out-m.true) in
-    simp (k, w, z, l, t, o) (refl, refl)
+    simp (k, w, z, l, t, o) record { says = refl; holds = refl }
 
 pub judge-requires : goal.judge-requires
 judge-requires c = can_derive c.args.n c.args.k c.args.s c.size-m.result c.args.table.now (narrow c.args.n c.args.k (omega (arith, c.if-k-gt64.false)) (omega (arith, c.if-k-eq0.false)) (sym c.too_wide.ensures ∙ c.if-too_wide.false)) (omega (arith, c.if-k-eq0.false)) (omega (arith, c.if-n-s.false)) (c.if-have-want.false ∙ c.size-want.ensures) c.size-m.ensures
@@ -83,11 +83,11 @@ returns-then-not-judge c =
     let l : leb c.args.n c.args.s ≡ false = lt-leb _ _ c.if-n-s.false in
     let t : eqb (length c.args.table.now) (count Allowed c.args.n c.args.k) ≡ true = eq-eqb _ _ (c.if-have-want.false ∙ c.size-want.ensures) in
     let o : ltb (length c.args.out.now) (count Allowed c.args.n (c.args.k - 1)) ≡ false = subst (λ (x : ℕ). ltb (length c.args.out.now) x ≡ false) c.size-m.ensures (le-ltb _ _ c.if-out-m.false) in
-    let j : all_inside (entry_at (c.args.k - 1) c.args.s c.args.table.now) (count Allowed c.args.n (c.args.k - 1)) ≡ false = ap (all_inside (entry_at (c.args.k - 1) c.args.s c.args.table.now)) (sym c.size-m.ensures) ∙ sym c.judge.ensures ∙ not-true _ c.if-not-judge.true in
-    simp (k, w, z, l, t, o, j) (refl, refl)
+    let j : all_inside (entry_at (c.args.k - 1) c.args.s c.args.table.now) (count Allowed c.args.n (c.args.k - 1)) ≡ false = ap (all_inside (entry_at (c.args.k - 1) c.args.s c.args.table.now)) (sym c.size-m.ensures) ∙ sym c.judge.ensures ∙ c.if-not-judge.true in
+    simp (k, w, z, l, t, o, j) record { says = refl; holds = refl }
 
 pub write-requires : goal.write-requires
-write-requires c = (can_derive c.args.n c.args.k c.args.s c.size-m.result c.args.table.now (narrow c.args.n c.args.k (omega (arith, c.if-k-gt64.false)) (omega (arith, c.if-k-eq0.false)) (sym c.too_wide.ensures ∙ c.if-too_wide.false)) (omega (arith, c.if-k-eq0.false)) (omega (arith, c.if-n-s.false)) (c.if-have-want.false ∙ c.size-want.ensures) c.size-m.ensures, sym c.judge.ensures ∙ not-false _ c.if-not-judge.false, c.if-out-m.false)
+write-requires c = (can_derive c.args.n c.args.k c.args.s c.size-m.result c.args.table.now (narrow c.args.n c.args.k (omega (arith, c.if-k-gt64.false)) (omega (arith, c.if-k-eq0.false)) (sym c.too_wide.ensures ∙ c.if-too_wide.false)) (omega (arith, c.if-k-eq0.false)) (omega (arith, c.if-n-s.false)) (c.if-have-want.false ∙ c.size-want.ensures) c.size-m.ensures, sym c.judge.ensures ∙ c.if-not-judge.false, c.if-out-m.false)
 
 pub returns : goal.returns
 returns c =
@@ -97,9 +97,6 @@ returns c =
     let l : leb c.args.n c.args.s ≡ false = lt-leb _ _ c.if-n-s.false in
     let t : eqb (length c.args.table.now) (count Allowed c.args.n c.args.k) ≡ true = eq-eqb _ _ (c.if-have-want.false ∙ c.size-want.ensures) in
     let o : ltb (length c.args.out.now) (count Allowed c.args.n (c.args.k - 1)) ≡ false = subst (λ (x : ℕ). ltb (length c.args.out.now) x ≡ false) c.size-m.ensures (le-ltb _ _ c.if-out-m.false) in
-    let j : all_inside (entry_at (c.args.k - 1) c.args.s c.args.table.now) (count Allowed c.args.n (c.args.k - 1)) ≡ true = ap (all_inside (entry_at (c.args.k - 1) c.args.s c.args.table.now)) (sym c.size-m.ensures) ∙ sym c.judge.ensures ∙ not-false _ c.if-not-judge.false in
+    let j : all_inside (entry_at (c.args.k - 1) c.args.s c.args.table.now) (count Allowed c.args.n (c.args.k - 1)) ≡ true = ap (all_inside (entry_at (c.args.k - 1) c.args.s c.args.table.now)) (sym c.size-m.ensures) ∙ sym c.judge.ensures ∙ c.if-not-judge.false in
     let e = entries_long (entry_at (c.args.k - 1) c.args.s c.args.table.now) (count Allowed c.args.n (c.args.k - 1)) in
-    simp (k, w, z, l, t, o, j) (
-      ap gives (c.size-m.ensures ∙ sym e),
-      c.write.ensures ∙ ap (λ (x : ℕ). entries_of (entry_at (c.args.k - 1) c.args.s c.args.table.now) x ++ drop x c.args.out.now) c.size-m.ensures ∙ ap (λ (x : ℕ). entries_of (entry_at (c.args.k - 1) c.args.s c.args.table.now) (count Allowed c.args.n (c.args.k - 1)) ++ drop x c.args.out.now) (sym e),
-    )
+    simp (k, w, z, l, t, o, j) record { says = ap gives (c.size-m.ensures ∙ sym e); holds = c.write.ensures ∙ ap (λ (x : ℕ). entries_of (entry_at (c.args.k - 1) c.args.s c.args.table.now) x ++ drop x c.args.out.now) c.size-m.ensures ∙ ap (λ (x : ℕ). entries_of (entry_at (c.args.k - 1) c.args.s c.args.table.now) (count Allowed c.args.n (c.args.k - 1)) ++ drop x c.args.out.now) (sym e) }

@@ -16,6 +16,3 @@ bounds-table-q c = c.requires.0
 
 pub fits-requires : goal.fits-requires
 fits-requires c = (c.requires.1, c.requires.2)
-
-pub returns : goal.returns
-returns c = c.fits2.ensures ∙ ap (λ z. inside (z *ℤ pos c.args.x.times)) (to_z-of_z w64 (get_or c.args.table.now c.args.x.rank (pos 0)) (record { sfits = c.c-1.given }))

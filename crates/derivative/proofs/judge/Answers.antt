@@ -31,7 +31,7 @@ entry_fits-requires c =
 pub returns-then-not-entry_fits : goal.returns-then-not-entry_fits
 returns-then-not-entry_fits c =
     all_not (entry_at c.args.k c.args.s c.args.table.now) c.args.m c.loop-r.r (omega (arith, c.loop-r-test.true, c.loop-r.invariant.1))
-    (sym (ap inside (pass c.args.k c.args.s c.args.m c.args.table.now c.requires c.loop-r.r c.loop-r.x.bits c.loop-r.x.rank c.loop-r.x.times c.loop-r.invariant.3 (omega (arith, c.loop-r-test.true, c.loop-r.invariant.0, c.loop-r.invariant.1))).is) ∙ sym c.entry_fits.ensures ∙ not-true _ c.if-not-entry_fits.true)
+    (sym (ap inside (pass c.args.k c.args.s c.args.m c.args.table.now c.requires c.loop-r.r c.loop-r.x.bits c.loop-r.x.rank c.loop-r.x.times c.loop-r.invariant.3 (omega (arith, c.loop-r-test.true, c.loop-r.invariant.0, c.loop-r.invariant.1))).is) ∙ sym c.entry_fits.ensures ∙ c.if-not-entry_fits.true)
 
 pub step-x-requires : goal.step-x-requires
 step-x-requires c = can-move c.args.k c.args.s c.args.m c.args.table.now c.requires c.loop-r.r c.loop-r.x.bits c.loop-r.x.rank c.loop-r.x.times c.loop-r.invariant.3 (omega (arith, c.loop-r-test.true, c.loop-r.invariant.1))
@@ -46,7 +46,7 @@ pub loop-r-preserved : goal.loop-r-preserved
 loop-r-preserved c = (
   omega (arith, c.loop-r-test.true),
   c.loop-r.invariant.1,
-  all_more (entry_at c.args.k c.args.s c.args.table.now) c.loop-r.r c.loop-r.invariant.2 ∙ sym (ap inside (pass c.args.k c.args.s c.args.m c.args.table.now c.requires c.loop-r.r c.loop-r.x.bits c.loop-r.x.rank c.loop-r.x.times c.loop-r.invariant.3 (omega (arith, c.loop-r-test.true, c.loop-r.invariant.0, c.loop-r.invariant.1))).is) ∙ sym c.entry_fits.ensures ∙ not-false _ c.if-not-entry_fits.false,
+  all_more (entry_at c.args.k c.args.s c.args.table.now) c.loop-r.r c.loop-r.invariant.2 ∙ sym (ap inside (pass c.args.k c.args.s c.args.m c.args.table.now c.requires c.loop-r.r c.loop-r.x.bits c.loop-r.x.rank c.loop-r.x.times c.loop-r.invariant.3 (omega (arith, c.loop-r-test.true, c.loop-r.invariant.0, c.loop-r.invariant.1))).is) ∙ sym c.entry_fits.ensures ∙ c.if-not-entry_fits.false,
   placed-next c.args.k c.args.s c.args.m c.args.table.now c.requires c.loop-r.r c.loop-r.x.bits c.loop-r.x.rank c.loop-r.x.times c.loop-r.invariant.3 (omega (arith, c.loop-r-test.true, c.loop-r.invariant.1)) c.step-x.result.bits c.step-x.result.rank c.step-x.result.times c.step-x.ensures,
 )
 

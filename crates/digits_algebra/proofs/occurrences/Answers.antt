@@ -7,6 +7,8 @@ use lib.ListN.{take}
 use Rattle.words.specs.Inversions.{multiplicity}
 use Rattle.digits_algebra.proofs.Counting.{counted_turn}
 use Rattle.digits_algebra.proofs.occurrences.Goals as goal
+use Rattle.std.proofs.Common.{inl, inr}
+use Rattle.digits_algebra.proofs.occurrences.Goals.{then-word-i, else-word-i}
 
 pub loop-i-init : goal.loop-i-init
 unfolding multiplicity
@@ -28,13 +30,12 @@ pub loop-i-smaller : goal.loop-i-smaller
 loop-i-smaller c = omega arith
 
 pub loop-i-preserved : goal.loop-i-preserved
-loop-i-preserved c =
-    (
-      omega arith,
-      ⊎_elim (λ w. omega arith) (λ w. omega arith) c.if-word-i.branch,
-      counted_turn c.args.word.now c.args.s c.loop-i.i c.loop-i.n c.if-word-i.n (omega arith) c.loop-i.invariant.2
-          (⊎_map (λ w. (w.0.taken, w.1)) (λ w. (w.0.left, w.1)) c.if-word-i.branch),
-    )
+loop-i-preserved c = (
+  omega arith,
+  elim c.if-word-i.branch [ then-word-i w ↦ omega arith | else-word-i w ↦ omega arith ],
+  counted_turn c.args.word.now c.args.s c.loop-i.i c.loop-i.n c.if-word-i.n (omega arith) c.loop-i.invariant.2
+      (elim c.if-word-i.branch [ then-word-i w ↦ inl (w.if-word-i.true, w.n-is) | else-word-i w ↦ inr (w.if-word-i.false, w.n-is) ]),
+)
 
 pub returns : goal.returns
 returns c =

@@ -35,12 +35,11 @@ pub loop-i-smaller : goal.loop-i-smaller
 loop-i-smaller c = omega arith
 
 pub loop-i-preserved : goal.loop-i-preserved
-loop-i-preserved c =
-    (
-      omega arith,
-      multiplied-turn c.args.word.now c.args.upto c.loop-i.product c.loop-i.i c.occurrences-times.result c.requires (omega arith) c.loop-i.invariant.1 c.occurrences-times.ensures
-          (leb-false (2 ^ 64) _ (sym c.exceeds.ensures ∙ c.if-exceeds.false)),
-    )
+loop-i-preserved c = (
+  omega arith,
+  multiplied-turn c.args.word.now c.args.upto c.loop-i.product c.loop-i.i c.occurrences-times.result c.requires (omega arith) c.loop-i.invariant.1 c.occurrences-times.ensures
+      (leb-false (2 ^ 64) _ (sym c.exceeds.ensures ∙ c.if-exceeds.false)),
+)
 
 pub returns : goal.returns
 returns c =

@@ -7,10 +7,10 @@ use Rattle.fields.proofs.Letters.{told_not, another-verb, not-asked, asked}
 use Rattle.fields.proofs.asks.Goals as goal
 
 pub returns-then-not-same : goal.returns-then-not-same
-returns-then-not-same c = another-verb _ _ c.args.pattern.now c.args.line.now (texts_from c.args.line.now c.args.from) (told_not c.same.ensures.1 (not-true _ c.if-not-same.true))
+returns-then-not-same c = another-verb _ _ c.args.pattern.now c.args.line.now (texts_from c.args.line.now c.args.from) (told_not c.same.ensures.1 (c.if-not-same.true))
 
 pub returns-in-At : goal.returns-in-At
-returns-in-At c = asked _ _ c.args.pattern.now c.args.line.now (texts_from c.args.line.now c.args.from) _ (c.same.ensures.0 (not-false _ c.if-not-same.false)) (subst (Passes c.args.pattern.now c.args.line.now (texts_from c.args.line.now c.args.from)) c.in-At.is c.after.ensures)
+returns-in-At c = asked _ _ c.args.pattern.now c.args.line.now (texts_from c.args.line.now c.args.from) _ (c.same.ensures.0 (c.if-not-same.false)) (subst (Passes c.args.pattern.now c.args.line.now (texts_from c.args.line.now c.args.from)) c.in-At.is c.after.ensures)
 
 pub returns-in-Bad : goal.returns-in-Bad
 returns-in-Bad c = not-asked _ _ c.args.pattern.now c.args.line.now (texts_from c.args.line.now c.args.from) (subst (Passes c.args.pattern.now c.args.line.now (texts_from c.args.line.now c.args.from)) c.in-Bad.is c.after.ensures)

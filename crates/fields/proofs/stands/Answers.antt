@@ -18,7 +18,7 @@ pub returns-then-letter-eq66 : goal.returns-then-letter-eq66
 returns-then-letter-eq66 c = bytes-stand _ _ _ c.if-letter-eq66.true c.is_bytes.ensures
 
 pub returns-then-letter-eq47 : goal.returns-then-letter-eq47
-returns-then-letter-eq47 c = slash-stands _ _ _ c.if4.true c.same.ensures
+returns-then-letter-eq47 c = slash-stands _ _ _ c.if-letter-eq47.true c.same.ensures
 
 pub returns : goal.returns
 returns c = nothing-stands _ _ c.if-letter-eq110.false c.if-letter-eq70.false c.if-letter-eq66.false c.if-letter-eq47.false

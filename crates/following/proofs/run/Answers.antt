@@ -15,19 +15,19 @@ pub overflow_add-top : goal.overflow_add-top
 overflow_add-top c = omega (arith, (turn (goal.at.overflow_add-top c).After-lowest).low)
 
 pub returns-then-lowest-top : goal.returns-then-lowest-top
-returns-then-lowest-top c = (turn (goal.at.returns-then-lowest-top (goal.at.returns-then-lowest-top c).Then-lowest-top).After-lowest).stops c.if-lowest-top.true
+returns-then-lowest-top c = (turn (goal.at.returns-then-lowest-top c).After-lowest).stops c.if-lowest-top.true
 
 pub overflow_add-top-in-loop-left : goal.overflow_add-top-in-loop-left
-overflow_add-top-in-loop-left c = omega (arith, (turn (goal.at.overflow_add-top-in-loop-left (goal.at.overflow_add-top-in-loop-left c).After-without_lowest-left-in-loop-left).After-lowest).low)
+overflow_add-top-in-loop-left c = omega (arith, (turn (goal.at.overflow_add-top-in-loop-left c).After-lowest).low)
 
 pub overflow_add-t : goal.overflow_add-t
-overflow_add-t c = omega (arith, (turn (goal.at.overflow_add-t (goal.at.overflow_add-t c).After-without_lowest-left-in-loop-left).After-lowest).low, c.loop-left.invariant.few)
+overflow_add-t c = omega (arith, (turn (goal.at.overflow_add-t c).After-lowest).low, c.loop-left.invariant.few)
 
 pub loop-left-smaller : goal.loop-left-smaller
-loop-left-smaller c = (turn (goal.at.loop-left-smaller (goal.at.loop-left-smaller c).After-without_lowest-left-in-loop-left).After-lowest).less c.without_lowest-left-in-loop-left.result c.without_lowest-left-in-loop-left.ensures
+loop-left-smaller c = (turn (goal.at.loop-left-smaller c).After-lowest).less c.without_lowest-left-in-loop-left.result c.without_lowest-left-in-loop-left.ensures
 
 pub loop-left-preserved : goal.loop-left-preserved
-loop-left-preserved c = (turn (goal.at.loop-left-preserved (goal.at.loop-left-preserved c).After-without_lowest-left-in-loop-left).After-lowest).again c.if-lowest-top.false c.without_lowest-left-in-loop-left.result c.without_lowest-left-in-loop-left.ensures
+loop-left-preserved c = (turn (goal.at.loop-left-preserved c).After-lowest).again c.if-lowest-top.false c.without_lowest-left-in-loop-left.result c.without_lowest-left-in-loop-left.ensures
 
 pub returns : goal.returns
 returns c = runs_end c.args.bits c.loop-left.left c.loop-left.top c.loop-left.t c.loop-left.invariant (omega arith)

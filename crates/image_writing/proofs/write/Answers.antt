@@ -10,13 +10,13 @@ use Rattle.image_writing.proofs.Two.{write_refused, write_short, write_good, pas
 use Rattle.image_writing.proofs.write.Goals as goal
 
 pub returns-then-out-n : goal.returns-then-out-n
-returns-then-out-n c = let u = write_short c.args.contents.now c.args.bodies.now (length c.args.out.now) _ (sym c.joined.ensures ∙ ap answer_says c.in-Is.is) (omega (arith, c.if-out-n.true)) in (sym (ap places_of u), sym (ap (λ (s : Says (List ℕ)). after s c.args.out.now) u))
+returns-then-out-n c = let u = write_short c.args.contents.now c.args.bodies.now (length c.args.out.now) _ (sym c.joined.ensures ∙ ap answer_says c.in-Is.is) (omega (arith, c.if-out-n.true)) in record { says = sym (ap places_of u); holds = sym (ap (λ (s : Says (List ℕ)). after s c.args.out.now) u) }
 
 pub returns-then-out-n-2 : goal.returns-then-out-n-2
-returns-then-out-n-2 c = let u = write_short c.args.contents.now c.args.bodies.now (length c.args.out.now) _ (sym c.joined.ensures ∙ ap answer_says c.in-Is.is) (omega (arith, c.if-out-n.false, c.if-out-n-2.true)) in (sym (ap places_of u), sym (ap (λ (s : Says (List ℕ)). after s c.args.out.now) u))
+returns-then-out-n-2 c = let u = write_short c.args.contents.now c.args.bodies.now (length c.args.out.now) _ (sym c.joined.ensures ∙ ap answer_says c.in-Is.is) (omega (arith, c.if-out-n.false, c.if-out-n-2.true)) in record { says = sym (ap places_of u); holds = sym (ap (λ (s : Says (List ℕ)). after s c.args.out.now) u) }
 
 pub returns-in-Refused : goal.returns-in-Refused
-returns-in-Refused c = let u = write_refused c.args.contents.now c.args.bodies.now (length c.args.out.now) _ _ (sym c.joined.ensures ∙ ap answer_says c.in-Refused.is) in (sym (ap places_of u), sym (ap (λ (s : Says (List ℕ)). after s c.args.out.now) u))
+returns-in-Refused c = let u = write_refused c.args.contents.now c.args.bodies.now (length c.args.out.now) _ _ (sym c.joined.ensures ∙ ap answer_says c.in-Refused.is) in record { says = sym (ap places_of u); holds = sym (ap (λ (s : Says (List ℕ)). after s c.args.out.now) u) }
 
 pub returns-else-out-n-2 : goal.returns-else-out-n-2
-returns-else-out-n-2 c = let u = write_good c.args.contents.now c.args.bodies.now (length c.args.out.now) _ (sym c.joined.ensures ∙ ap answer_says c.in-Is.is) (omega (arith, c.if-out-n.false, c.if-out-n-2.false)) in (ap gives (sym (length-append c.args.contents.now c.args.bodies.now)) ∙ sym (ap places_of u), c.put-in-Is.ensures ∙ ap (λ (x : List ℕ). paste x (length c.args.contents.now) c.args.bodies.now (length c.args.bodies.now)) c.put.ensures ∙ pasted_both c.args.contents.now c.args.bodies.now c.args.out.now (omega (arith, c.if-out-n.false, c.if-out-n-2.false)) ∙ sym (ap (λ (s : Says (List ℕ)). after s c.args.out.now) u))
+returns-else-out-n-2 c = let u = write_good c.args.contents.now c.args.bodies.now (length c.args.out.now) _ (sym c.joined.ensures ∙ ap answer_says c.in-Is.is) (omega (arith, c.if-out-n.false, c.if-out-n-2.false)) in record { says = ap gives (sym (length-append c.args.contents.now c.args.bodies.now)) ∙ sym (ap places_of u); holds = c.put-in-Is.ensures ∙ ap (λ (x : List ℕ). paste x (length c.args.contents.now) c.args.bodies.now (length c.args.bodies.now)) c.put.ensures ∙ pasted_both c.args.contents.now c.args.bodies.now c.args.out.now (omega (arith, c.if-out-n.false, c.if-out-n-2.false)) ∙ sym (ap (λ (s : Says (List ℕ)). after s c.args.out.now) u) }

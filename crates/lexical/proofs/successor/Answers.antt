@@ -10,17 +10,17 @@ use Rattle.lexical.proofs.successor.Goals as goal
 pub returns-in-Refused : goal.returns-in-Refused
 returns-in-Refused c =
     let u = next_by_pack c.args.family c.args.n c.args.word.now (length c.args.out.now) ∙ ap (λ s. and_then s (λ x. following c.args.family c.args.n c.args.word.now (length c.args.out.now))) (sym c.pack-a.ensures ∙ ap indexed_says c.in-Refused.is) in
-    (sym (ap places_of u), sym (ap (λ s. after s c.args.out.now) u))
+    record { says = sym (ap places_of u); holds = sym (ap (λ s. after s c.args.out.now) u) }
 
 pub returns-then-r-eq0 : goal.returns-then-r-eq0
 returns-then-r-eq0 c =
     let u = next_by_pack c.args.family c.args.n c.args.word.now (length c.args.out.now) ∙ ap (λ s. and_then s (λ x. following c.args.family c.args.n c.args.word.now (length c.args.out.now))) (sym c.pack-a.ensures ∙ ap indexed_says c.in_default.is) ∙ last_says c.args.family c.args.n c.args.word.now (length c.args.out.now) c.raisable-r.result c.raisable-r.ensures c.if-r-eq0.true in
-    (sym (ap places_of u), sym (ap (λ s. after s c.args.out.now) u))
+    record { says = sym (ap places_of u); holds = sym (ap (λ s. after s c.args.out.now) u) }
 
 pub returns-then-out-word : goal.returns-then-out-word
 returns-then-out-word c =
     let u = next_by_pack c.args.family c.args.n c.args.word.now (length c.args.out.now) ∙ ap (λ s. and_then s (λ x. following c.args.family c.args.n c.args.word.now (length c.args.out.now))) (sym c.pack-a.ensures ∙ ap indexed_says c.in_default.is) ∙ short_says c.args.family c.args.n c.args.word.now (length c.args.out.now) c.raisable-r.result c.raisable-r.ensures (omega (arith, c.if-r-eq0.false)) c.if-out-word.true in
-    (sym (ap places_of u), sym (ap (λ s. after s c.args.out.now) u))
+    record { says = sym (ap places_of u); holds = sym (ap (λ s. after s c.args.out.now) u) }
 
 pub write_next-requires : goal.write_next-requires
 write_next-requires c = (
@@ -32,4 +32,4 @@ pub returns : goal.returns
 returns c =
     let u = next_by_pack c.args.family c.args.n c.args.word.now (length c.args.out.now) ∙ ap (λ s. and_then s (λ x. following c.args.family c.args.n c.args.word.now (length c.args.out.now))) (sym c.pack-a.ensures ∙ ap indexed_says c.in_default.is) ∙ next_says_lem c.args.family c.args.n c.args.word.now (length c.args.out.now) c.raisable-r.result c.raisable-r.ensures (omega (arith, c.if-r-eq0.false)) c.if-out-word.false in
     let l = raised_long c.args.family c.args.word.now c.raisable-r.result (omega (arith, c.if-r-eq0.false)) c.raisable-r.ensures.within in
-    (ap gives (sym l) ∙ sym (ap places_of u), c.write_next.ensures ∙ sym (ap (λ s. after s c.args.out.now) u))
+    record { says = ap gives (sym l) ∙ sym (ap places_of u); holds = c.write_next.ensures ∙ sym (ap (λ s. after s c.args.out.now) u) }

@@ -15,17 +15,17 @@ use Rattle.lexical.proofs.unrank.Goals as goal
 pub returns-in_default : goal.returns-in_default
 returns-in_default c =
     let u = unrank_refused c.args.family c.args.n c.args.k c.args.r (length c.args.out.now) _ _ (sym c.count-a.ensures ∙ ap answer_says (c.in_default.is ∙ c.in-Refused.is)) in
-    (sym (ap places_of u), sym (ap (λ s. after s c.args.out.now) u))
+    record { says = sym (ap places_of u); holds = sym (ap (λ s. after s c.args.out.now) u) }
 
 pub returns-then-c-r : goal.returns-then-c-r
 returns-then-c-r c =
     let u = unrank_none c.args.family c.args.n c.args.k c.args.r (length c.args.out.now) _ (sym c.count-a.ensures ∙ ap answer_says c.in-Is.is) c.if-c-r.true in
-    (sym (ap places_of u), sym (ap (λ s. after s c.args.out.now) u))
+    record { says = sym (ap places_of u); holds = sym (ap (λ s. after s c.args.out.now) u) }
 
 pub returns-then-out-k : goal.returns-then-out-k
 returns-then-out-k c =
     let u = unrank_short c.args.family c.args.n c.args.k c.args.r (length c.args.out.now) _ (sym c.count-a.ensures ∙ ap answer_says c.in-Is.is) c.if-c-r.false c.if-out-k.true in
-    (sym (ap places_of u), sym (ap (λ s. after s c.args.out.now) u))
+    record { says = sym (ap places_of u); holds = sym (ap (λ s. after s c.args.out.now) u) }
 
 pub at_place-requires : goal.at_place-requires
 at_place-requires c =
@@ -47,7 +47,4 @@ pub returns : goal.returns
 returns c =
     let e = sym c.count-a.ensures ∙ ap answer_says c.in-Is.is in
     let d = count_given c.args.family c.args.n c.args.k _ e in
-    let u = unrank_gives c.args.family c.args.n c.args.k c.args.r (length c.args.out.now) _ e c.if-c-r.false c.if-out-k.false in (
-      ap gives (sym (lex_unrank_is_a_word c.args.family c.args.n c.args.k c.args.r (omega (arith, d.is, c.if-c-r.false))).long) ∙ sym (ap places_of u),
-      c.spell.ensures ∙ ap (λ (v : List ℕ). v ++ drop (length v) c.args.out.now) c.at_place.ensures ∙ sym (ap (λ s. after s c.args.out.now) u),
-    )
+    let u = unrank_gives c.args.family c.args.n c.args.k c.args.r (length c.args.out.now) _ e c.if-c-r.false c.if-out-k.false in record { says = ap gives (sym (lex_unrank_is_a_word c.args.family c.args.n c.args.k c.args.r (omega (arith, d.is, c.if-c-r.false))).long) ∙ sym (ap places_of u); holds = c.spell.ensures ∙ ap (λ (v : List ℕ). v ++ drop (length v) c.args.out.now) c.at_place.ensures ∙ sym (ap (λ s. after s c.args.out.now) u) }

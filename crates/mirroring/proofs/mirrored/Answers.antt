@@ -1,7 +1,6 @@
 -- `mirroring::mirrored` meets its contract, by the laws of `Mirroring`. Assumes nothing.
 use native.Mathlib.Omega.{arith}
 use Rattle.mirroring.proofs.Mirroring.{Mirroring, mirroring_starts, mirroring_turn, mirroring_ends, mirroring_some}
-use Rattle.mirroring.proofs.mirrored.Lts as lts
 use Rattle.mirroring.proofs.mirrored.Goals as goal
 
 pub loop-left-init : goal.loop-left-init

@@ -2,7 +2,6 @@
 use lib.ListN.{length}
 use Rattle.words.specs.Bits.{set_bits}
 use Rattle.mirroring.proofs.Mirroring.{Mirroring}
-use Rattle.mirroring.proofs.mirrored.Lts as lts
 use Rattle.mirroring.proofs.mirrored.Given as goal
 
 abbrev pub invariant-loop-left : goal.invariant-loop-left

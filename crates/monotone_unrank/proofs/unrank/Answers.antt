@@ -9,9 +9,9 @@ use Rattle.monotone_unrank.proofs.unrank.Goals as goal
 pub returns-in_default : goal.returns-in_default
 returns-in_default c =
     let u = unrank_by_index c.args.family c.args.n c.args.k c.args.r (length c.args.out.now) ∙ ap (λ s. and_then s (λ x. unpack_says x (length c.args.out.now))) (sym c.unrank_over-a.ensures ∙ ap indexed_says (c.in_default.is ∙ c.in-Refused.is)) in
-    (sym (ap places_of u), sym (ap (λ s. after s c.args.out.now) u))
+    record { says = sym (ap places_of u); holds = sym (ap (λ s. after s c.args.out.now) u) }
 
 pub returns : goal.returns
 returns c =
     let u = unrank_by_index c.args.family c.args.n c.args.k c.args.r (length c.args.out.now) ∙ ap (λ s. and_then s (λ x. unpack_says x (length c.args.out.now))) (sym c.unrank_over-a.ensures ∙ ap indexed_says c.in-At.is) in
-    (c.unpack.ensures.0 ∙ sym (ap places_of u), c.unpack.ensures.1 ∙ sym (ap (λ s. after s c.args.out.now) u))
+    record { says = c.unpack.ensures.says ∙ sym (ap places_of u); holds = c.unpack.ensures.holds ∙ sym (ap (λ s. after s c.args.out.now) u) }

@@ -5,9 +5,6 @@ use native.Mathlib.Omega.{arith}
 use lib.ListN.{get_or}
 use Rattle.words.specs.Bits.{bits_of}
 use Rattle.packing.proofs.Checks.{bits_turn, bits_end, symbol_fits, one_shl}
-use Rattle.packing.proofs.bits_of.Reads as reads
-use Rattle.packing.proofs.bits_of.Lts as lts
-use Rattle.words.proofs.shift.Reads as shift-reads
 use Rattle.packing.proofs.bits_of.Goals as goal
 
 pub loop-i-init : goal.loop-i-init

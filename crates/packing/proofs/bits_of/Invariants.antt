@@ -4,9 +4,6 @@ use Prim.Native.Nat.{◌≤◌, ◌-◌, ◌+◌}
 use lib.ListN.{length, drop}
 use Rattle.words.specs.Word.{shifted_from, shifted}
 use Rattle.words.specs.Bits.{bits_of}
-use Rattle.packing.proofs.bits_of.Reads as reads
-use Rattle.packing.proofs.bits_of.Lts as lts
-use Rattle.words.proofs.shift.Reads as shift-reads
 use Rattle.packing.proofs.bits_of.Given as goal
 
 abbrev pub invariant-loop-i : goal.invariant-loop-i

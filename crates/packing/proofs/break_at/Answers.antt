@@ -9,9 +9,6 @@ use Rattle.words.specs.Pick.{pick}
 use lib.ListN.{get_or, drop}
 use Rattle.packing.specs.Checks.{steps, break_from, break_at}
 use Rattle.packing.proofs.Checks.{break_turn, break_end}
-use Rattle.packing.proofs.break_at.Reads as reads
-use Rattle.packing.proofs.break_at.Lts as lts
-use Rattle.packing.proofs.may_follow.Reads as may-follow-reads
 use Rattle.packing.proofs.break_at.Goals as goal
 
 pub loop-i-init : goal.loop-i-init
@@ -42,7 +39,7 @@ pub returns-then-not-may_follow : goal.returns-then-not-may_follow
 returns-then-not-may_follow c =
     let w : List ℕ = c.args.w.now in
     let i : ℕ = c.loop-i.i in
-    let s : steps c.args.f (get_or w i 0) (get_or w (i + 1) 0) ≡ false = sym c.may_follow.ensures ∙ not-true _ c.if-not-may_follow.true in
+    let s : steps c.args.f (get_or w i 0) (get_or w (i + 1) 0) ≡ false = sym c.may_follow.ensures ∙ c.if-not-may_follow.true in
     sym (c.loop-i.invariant.1 ∙ break_turn _ w i (omega arith) ∙ ap (λ t. pick t (break_from c.args.f (i + 1) (drop (i + 1) w)) (i + 1)) s)
 
 pub overflow_add-i-in-loop-i-2 : goal.overflow_add-i-in-loop-i-2
@@ -55,7 +52,7 @@ pub loop-i-preserved : goal.loop-i-preserved
 loop-i-preserved c =
     let w : List ℕ = c.args.w.now in
     let i : ℕ = c.loop-i.i in
-    let s : steps c.args.f (get_or w i 0) (get_or w (i + 1) 0) ≡ true = sym c.may_follow.ensures ∙ not-false _ c.if-not-may_follow.false in (
+    let s : steps c.args.f (get_or w i 0) (get_or w (i + 1) 0) ≡ true = sym c.may_follow.ensures ∙ c.if-not-may_follow.false in (
       omega arith,
       c.loop-i.invariant.1 ∙ break_turn _ w i (omega arith) ∙ ap (λ t. pick t (break_from c.args.f (i + 1) (drop (i + 1) w)) (i + 1)) s,
     )

@@ -3,9 +3,6 @@ use mathlib.Core.Path.{◌≡◌}
 use Prim.Native.Nat.{◌≤◌, ◌-◌}
 use lib.ListN.{length, drop}
 use Rattle.packing.specs.Checks.{break_from, break_at}
-use Rattle.packing.proofs.break_at.Reads as reads
-use Rattle.packing.proofs.break_at.Lts as lts
-use Rattle.packing.proofs.may_follow.Reads as may-follow-reads
 use Rattle.packing.proofs.break_at.Given as goal
 
 abbrev pub invariant-loop-i : goal.invariant-loop-i

@@ -9,11 +9,11 @@ is_permutation-requires c = c.requires
 
 pub returns-then-not-is_permutation : goal.returns-then-not-is_permutation
 unfolding is_good
-returns-then-not-is_permutation c = simp (sym c.is_permutation.ensures ∙ not-true _ c.if-not-is_permutation.true)
+returns-then-not-is_permutation c = simp (sym c.is_permutation.ensures ∙ c.if-not-is_permutation.true)
 
 pub nothing_past-requires : goal.nothing_past-requires
 nothing_past-requires c = c.requires
 
 pub returns : goal.returns
 unfolding is_good
-returns c = simp (sym c.is_permutation.ensures ∙ not-false _ c.if-not-is_permutation.false) c.nothing_past.ensures
+returns c = simp (sym c.is_permutation.ensures ∙ c.if-not-is_permutation.false) c.nothing_past.ensures

@@ -24,7 +24,7 @@ returns-then-not-is_good c =
       le-ltb _ _ c.if-n.false,
       le-ltb _ _ c.if-m.false,
       eq-eqb _ _ c.if-n-m.false,
-      sym c.is_good.ensures ∙ not-true _ c.if-not-is_good.true,
+      sym c.is_good.ensures ∙ c.if-not-is_good.true,
     ))
 
 pub returns-then-not-is_good-2 : goal.returns-then-not-is_good-2
@@ -34,8 +34,8 @@ returns-then-not-is_good-2 c =
       le-ltb _ _ c.if-n.false,
       le-ltb _ _ c.if-m.false,
       eq-eqb _ _ c.if-n-m.false,
-      sym c.is_good.ensures ∙ not-false _ c.if-not-is_good.false,
-      sym c.is_good-2.ensures ∙ not-true _ c.if-not-is_good-2.true,
+      sym c.is_good.ensures ∙ c.if-not-is_good.false,
+      sym c.is_good-2.ensures ∙ c.if-not-is_good-2.true,
     ))
 
 pub composed-requires : goal.composed-requires
@@ -43,9 +43,9 @@ composed-requires c =
     record {
       left =
           tested_holds c.args.p (search rules) c.if-n.false
-          (sym c.is_good.ensures ∙ not-false _ c.if-not-is_good.false);
+          (sym c.is_good.ensures ∙ c.if-not-is_good.false);
       right =
-          tested_holds c.args.q (search rules) c.if-m.false (sym c.is_good-2.ensures ∙ not-false _ c.if-not-is_good-2.false);
+          tested_holds c.args.q (search rules) c.if-m.false (sym c.is_good-2.ensures ∙ c.if-not-is_good-2.false);
       lengths = c.if-n-m.false;
     }
 
@@ -56,6 +56,6 @@ returns c =
       le-ltb _ _ c.if-n.false,
       le-ltb _ _ c.if-m.false,
       eq-eqb _ _ c.if-n-m.false,
-      sym c.is_good.ensures ∙ not-false _ c.if-not-is_good.false,
-      sym c.is_good-2.ensures ∙ not-false _ c.if-not-is_good-2.false,
+      sym c.is_good.ensures ∙ c.if-not-is_good.false,
+      sym c.is_good-2.ensures ∙ c.if-not-is_good-2.false,
     ))

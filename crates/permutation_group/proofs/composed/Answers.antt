@@ -49,12 +49,11 @@ pub loop-i-smaller : goal.loop-i-smaller
 loop-i-smaller c = omega arith
 
 pub loop-i-preserved : goal.loop-i-preserved
-loop-i-preserved c =
-    (
-      omega arith,
-      fill_more (at (compose (arrangement_of c.args.p) (arrangement_of c.args.q))) empty_entries c.loop-i.out c.loop-i.i _ (omega (arith, c.requires.left.short))
-          (compose-entry c.args.p c.args.q c.requires.left c.requires.right c.requires.lengths c.loop-i.i c.loop-i-test.true) c.loop-i.invariant.1,
-    )
+loop-i-preserved c = (
+  omega arith,
+  fill_more (at (compose (arrangement_of c.args.p) (arrangement_of c.args.q))) empty_entries c.loop-i.out c.loop-i.i _ (omega (arith, c.requires.left.short))
+      (compose-entry c.args.p c.args.q c.requires.left c.requires.right c.requires.lengths c.loop-i.i c.loop-i-test.true) c.loop-i.invariant.1,
+)
 
 pub returns : goal.returns
 returns c =

@@ -32,11 +32,10 @@ pub loop-i-smaller : goal.loop-i-smaller
 loop-i-smaller c = omega arith
 
 pub loop-i-preserved : goal.loop-i-preserved
-loop-i-preserved c =
-    (
-      omega arith,
-      rw (word_at c.args.p c.loop-i.i c.loop-i-test.true) at (invert_more (arrangement_of c.args.p) c.args.p.len c.loop-i.i c.loop-i.places c.requires.permutation c.requires.short c.loop-i-test.true c.loop-i.invariant.1),
-    )
+loop-i-preserved c = (
+  omega arith,
+  rw (word_at c.args.p c.loop-i.i c.loop-i-test.true) at (invert_more (arrangement_of c.args.p) c.args.p.len c.loop-i.i c.loop-i.places c.requires.permutation c.requires.short c.loop-i-test.true c.loop-i.invariant.1),
+)
 
 pub returns : goal.returns
 returns c =

@@ -63,15 +63,15 @@ pub offset_bounds-entries-n : goal.offset_bounds-entries-n
 offset_bounds-entries-n c = omega (arith, c.requires.2)
 
 pub bounds-entries-n : goal.bounds-entries-n
-bounds-entries-n c = omega (arith, c.requires.1, c.requires.2, c.loop.invariant.1.long)
+bounds-entries-n c = omega (arith, c.requires.1, c.requires.2, c.loop-i.invariant.1.long)
 
 pub returns : goal.returns
 returns c =
     let n : ℕ = c.args.n in
     let w : List ℕ = arrangement_of (held c.args.entries.now n) in
-    let i : c.loop.i ≡ n = omega arith in
+    let i : c.loop-i.i ≡ n = omega arith in
     filled_record (lastly c.args.d w) _ (n + 1) (n + 1)
     (rebased (at (lastly c.args.d w)) c.args.entries.now _ n c.requires.0 c.requires.1
-    (fill_more (at (lastly c.args.d w)) c.args.entries.now c.loop.entries n c.args.d (omega (arith, c.requires.1, c.requires.2))
-    (sym (lastly_end c.args.d w n (sym c.requires.0.permutation.long))) (subst (Filled (at (lastly c.args.d w)) c.args.entries.now c.loop.entries) i c.loop.invariant.1)))
+    (fill_more (at (lastly c.args.d w)) c.args.entries.now c.loop-i.entries n c.args.d (omega (arith, c.requires.1, c.requires.2))
+    (sym (lastly_end c.args.d w n (sym c.requires.0.permutation.long))) (subst (Filled (at (lastly c.args.d w)) c.args.entries.now c.loop-i.entries) i c.loop-i.invariant.1)))
     refl (lastly_long c.args.d w ∙ ap suc c.requires.0.permutation.long ∙ sym (add-one n)) (omega (arith, c.requires.2))

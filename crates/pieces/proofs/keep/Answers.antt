@@ -28,7 +28,7 @@ pub loop-i-smaller : goal.loop-i-smaller
 loop-i-smaller c = omega (arith, c.loop-i-test.true)
 
 pub loop-i-preserved : goal.loop-i-preserved
-loop-i-preserved c = let q = room_fits c.args.at (length c.args.piece.now) c.loop-i.i (omega (arith, c.room-n.ensures, c.loop-i-test.true)) in (omega (arith, c.loop-i-test.true), length-set c.loop-i.auto (c.args.at + c.loop-i.i) (get_or c.args.piece.now c.loop-i.i 0) ∙ c.loop-i.invariant.1, c.loop-i.invariant.2, ap (λ (k : List ℕ). set k (c.args.at + c.loop-i.i) (get_or c.args.piece.now c.loop-i.i 0)) c.loop-i.invariant.3 ∙ paste-suc c.args.bytes c.args.at c.args.piece.now c.loop-i.i 0 (omega (arith, q.0, c.loop-i.invariant.2)) q.1 ∙ ap (paste c.args.bytes c.args.at c.args.piece.now) (let e : suc c.loop-i.i ≡ c.loop-i.i + 1 = omega arith in e))
+loop-i-preserved c = let q = room_fits c.args.at (length c.args.piece.now) c.loop-i.i (omega (arith, c.room-n.ensures, c.loop-i-test.true)) in (omega (arith, c.loop-i-test.true), length-set c.loop-i.kept (c.args.at + c.loop-i.i) (get_or c.args.piece.now c.loop-i.i 0) ∙ c.loop-i.invariant.1, c.loop-i.invariant.2, ap (λ (k : List ℕ). set k (c.args.at + c.loop-i.i) (get_or c.args.piece.now c.loop-i.i 0)) c.loop-i.invariant.3 ∙ paste-suc c.args.bytes c.args.at c.args.piece.now c.loop-i.i 0 (omega (arith, q.0, c.loop-i.invariant.2)) q.1 ∙ ap (paste c.args.bytes c.args.at c.args.piece.now) (let e : suc c.loop-i.i ≡ c.loop-i.i + 1 = omega arith in e))
 
 pub returns : goal.returns
 returns c = c.loop-i.invariant.3 ∙ ap (paste c.args.bytes c.args.at c.args.piece.now) (let e : c.loop-i.i ≡ c.room-n.result = omega (arith, c.loop-i.invariant.0, c.loop-i-test.false) in e ∙ c.room-n.ensures)

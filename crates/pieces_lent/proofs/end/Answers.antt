@@ -7,7 +7,4 @@ use Rattle.pieces_lent.proofs.end.Goals as goal
 
 pub returns : goal.returns
 returns c =
-    let e = c.end.ensures ∙ ap (λ (p : Pieces). closed p) c.taken-p.ensures in (
-      c.put.ensures.0 ∙ ap (λ (p : Pieces). p.verdict) e,
-      (c.put.ensures.1.0 ∙ ap (λ (p : Pieces). p.bytes) e, (c.put.ensures.1.1.0 ∙ ap (λ (p : Pieces). p.seen) e, (c.put.ensures.1.1.1.0 ∙ ap (λ (p : Pieces). code_of p.verdict) e, c.put.ensures.1.1.1.1 ∙ ap (λ (p : Pieces). number_in p.verdict) e))),
-    )
+    let e = c.end.ensures ∙ ap (λ (p : Pieces). closed p) c.taken-p.ensures in record { verdict = c.put.ensures.verdict ∙ ap (λ (p : Pieces). p.verdict) e; bytes = c.put.ensures.bytes ∙ ap (λ (p : Pieces). p.bytes) e; seen = c.put.ensures.seen ∙ ap (λ (p : Pieces). p.seen) e; state = c.put.ensures.state ∙ ap (λ (p : Pieces). code_of p.verdict) e; at = c.put.ensures.at ∙ ap (λ (p : Pieces). number_in p.verdict) e }

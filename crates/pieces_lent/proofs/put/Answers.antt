@@ -3,4 +3,4 @@ use mathlib.Core.Path.{refl}
 use Rattle.pieces_lent.proofs.put.Goals as goal
 
 pub returns : goal.returns
-returns c = (refl, (refl, (refl, (c.code.ensures, c.number.ensures))))
+returns c = record { verdict = refl; bytes = refl; seen = refl; state = c.code.ensures; at = c.number.ensures }

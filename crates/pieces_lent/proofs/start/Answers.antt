@@ -7,7 +7,4 @@ use Rattle.pieces_lent.proofs.start.Goals as goal
 
 pub returns : goal.returns
 returns c =
-    (
-      c.put.ensures.0 ∙ ap (λ (p : Pieces). p.verdict) c.start.ensures,
-      (c.put.ensures.1.0 ∙ ap (λ (p : Pieces). p.bytes) c.start.ensures, (c.put.ensures.1.1.0 ∙ ap (λ (p : Pieces). p.seen) c.start.ensures, (c.put.ensures.1.1.1.0 ∙ ap (λ (p : Pieces). code_of p.verdict) c.start.ensures, c.put.ensures.1.1.1.1 ∙ ap (λ (p : Pieces). number_in p.verdict) c.start.ensures))),
-    )
+    record { verdict = c.put.ensures.verdict ∙ ap (λ (p : Pieces). p.verdict) c.start.ensures; bytes = c.put.ensures.bytes ∙ ap (λ (p : Pieces). p.bytes) c.start.ensures; seen = c.put.ensures.seen ∙ ap (λ (p : Pieces). p.seen) c.start.ensures; state = c.put.ensures.state ∙ ap (λ (p : Pieces). code_of p.verdict) c.start.ensures; at = c.put.ensures.at ∙ ap (λ (p : Pieces). number_in p.verdict) c.start.ensures }

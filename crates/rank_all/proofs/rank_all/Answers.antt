@@ -17,7 +17,7 @@ returns-in-Bad c =
     let l : List ℕ = c.args.out.now in
     let s : Says (List ℕ) = refused_at_if (ltb (length l) (length bs)) 8 (length l) (gives (ranks_of c.args.family c.args.n bs)) in
     let u = found c.args.family c.args.n bs _ _ s c.judge.ensures c.in-Bad.is in
-    (ap places_of u, ap (λ z. after z l) u)
+    record { says = ap places_of u; holds = ap (λ z. after z l) u }
 
 pub returns-then-room-bits : goal.returns-then-room-bits
 returns-then-room-bits c =
@@ -27,7 +27,7 @@ returns-then-room-bits c =
     let t : ltb (length l) (length bs) ≡ true = lt-ltb (length l) (length bs) c.if-room-bits.true in
     let v : refuses_at 8 (length l) ≡ s = simp t in
     let u = v ∙ found c.args.family c.args.n bs _ _ s c.judge.ensures c.in_default.is in
-    (ap places_of u, ap (λ z. after z l) u)
+    record { says = ap places_of u; holds = ap (λ z. after z l) u }
 
 pub returns : goal.returns
 returns c =
@@ -38,4 +38,4 @@ returns c =
     let v : gives (ranks_of c.args.family c.args.n bs) ≡ s = simp t in
     let u = v ∙ found c.args.family c.args.n bs _ _ s c.judge.ensures c.in_default.is in
     let e = ranks_by_sets c.args.family c.args.n bs in
-    (ap gives (sym (ap length e ∙ set_ranks_long bs)) ∙ ap places_of u, c.write.ensures ∙ ap (λ w. after (gives w) l) (sym e) ∙ ap (λ z. after z l) u)
+    record { says = ap gives (sym (ap length e ∙ set_ranks_long bs)) ∙ ap places_of u; holds = c.write.ensures ∙ ap (λ w. after (gives w) l) (sym e) ∙ ap (λ z. after z l) u }

@@ -11,10 +11,10 @@ refused : {t : Bool} → t ≡ true → t ≡ false → ⊥
 refused p q = let z : ◌≡◌ {A = ℕ} 0 1 = cc in omega arith
 
 pub returns-then-not-same : goal.returns-then-not-same
-returns-then-not-same c = another-verb _ _ _ _ c.find-end.ensures (λ e. refused (c.same.ensures.1 e) (not-true _ c.if-not-same.true))
+returns-then-not-same c = another-verb _ _ _ _ c.find-end.ensures (λ e. refused (c.same.ensures.1 e) (c.if-not-same.true))
 
 pub returns-then-end-entry : goal.returns-then-end-entry
 returns-then-end-entry c = no-pattern _ _ _ _ c.find-end.ensures c.if-end-entry.true
 
 pub returns : goal.returns
-returns c = pattern-decides _ _ _ _ c.find-end.ensures _ c.if-end-entry.false (c.same.ensures.0 (not-false _ c.if-not-same.false)) c.are.ensures
+returns c = pattern-decides _ _ _ _ c.find-end.ensures _ c.if-end-entry.false (c.same.ensures.0 (c.if-not-same.false)) c.are.ensures

@@ -10,7 +10,7 @@ refused : {t : Bool} → t ≡ true → t ≡ false → ⊥
 refused p q = let z : ◌≡◌ {A = ℕ} 0 1 = cc in omega arith
 
 pub returns-then-same : goal.returns-then-same
-returns-then-same c = opens-with-room _ _ (omega arith) c.find.ensures c.after_room.result (c.same.ensures.0 c.if-same.true) c.after_room.ensures
+returns-then-same c = opens-with-room _ _ (omega arith) c.find-end.ensures c.after_room.result (c.same.ensures.0 c.if-same.true) c.after_room.ensures
 
 pub returns : goal.returns
-returns c = opens-with-verb _ _ (omega arith) c.find.ensures (λ e. refused (c.same.ensures.1 e) c.if-same.false)
+returns c = opens-with-verb _ _ (omega arith) c.find-end.ensures (λ e. refused (c.same.ensures.1 e) c.if-same.false)

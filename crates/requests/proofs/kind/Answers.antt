@@ -34,7 +34,7 @@ returns-in-Allowed c = kind_is _ (family Allowed) 97 (subst (Names _) (c.in-Fami
 pub returns-in-Nothing : goal.returns-in-Nothing
 returns-in-Nothing c =
     no_kind _ _ c.in-Nothing.is c.family.ensures
-    (λ e. refused (c.same.ensures.1 e) c.if1.false)
-    (λ e. refused (c.same2.ensures.1 e) c.if2.false)
-    (λ e. refused (c.same3.ensures.1 e) c.if3.false)
+    (λ e. refused (c.same.ensures.1 e) c.if-same.false)
+    (λ e. refused (c.same-2.ensures.1 e) c.if-same-2.false)
+    (λ e. refused (c.same-3.ensures.1 e) c.if-same-3.false)
     (λ e. refused (c.same-4.ensures.1 e) c.if-same-4.false)

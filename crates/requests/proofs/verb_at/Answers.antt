@@ -10,7 +10,7 @@ refused : {t : Bool} → t ≡ true → t ≡ false → ⊥
 refused p q = let z : ◌≡◌ {A = ℕ} 0 1 = cc in omega arith
 
 pub returns-then-same : goal.returns-then-same
-returns-then-same c = no-verb _ _ _ c.requires c.find.ensures (c.same.ensures.0 c.if-same.true) c.args.room
+returns-then-same c = no-verb _ _ _ c.requires c.find-end.ensures (c.same.ensures.0 c.if-same.true) c.args.room
 
 pub returns : goal.returns
-returns c = (refl, (refl, verb-is _ _ _ c.requires c.find.ensures (λ e. refused (c.same.ensures.1 e) c.if-same.false)))
+returns c = (refl, (refl, verb-is _ _ _ c.requires c.find-end.ensures (λ e. refused (c.same.ensures.1 e) c.if-same.false)))

@@ -16,10 +16,10 @@ pub returns-then-n-values : goal.returns-then-n-values
 returns-then-n-values c = λ xs k v s. passed-full _ _ _ _ _ _ _ c.loop-at.invariant _ (omega arith) (some_text _ _ (omega arith)) xs v s
 
 pub returns-then-not-take : goal.returns-then-not-take
-returns-then-not-take c = λ xs k v s. passed-bad _ _ _ _ _ _ _ c.loop-at.invariant _ _ (texts_at _ _ _ (omega arith) c.find-end.ensures) (c.take.ensures.none (not-true _ c.if-not-take.true)) xs s
+returns-then-not-take c = λ xs k v s. passed-bad _ _ _ _ _ _ _ c.loop-at.invariant _ _ (texts_at _ _ _ (omega arith) c.find-end.ensures) (c.take.ensures.none (c.if-not-take.true)) xs s
 
 pub loop-at-preserved : goal.loop-at-preserved
-loop-at-preserved c = passed-one _ _ _ _ _ _ _ c.loop-at.invariant _ _ _ _ (texts_at _ _ _ (omega arith) c.find-end.ensures) (omega arith) (omega arith) (c.take.ensures.one (not-false _ c.if-not-take.false))
+loop-at-preserved c = passed-one _ _ _ _ _ _ _ c.loop-at.invariant _ _ _ _ (texts_at _ _ _ (omega arith) c.find-end.ensures) (omega arith) (omega arith) (c.take.ensures.one (c.if-not-take.false))
 
 pub returns : goal.returns
 returns c = passed-all _ _ _ _ _ _ _ c.loop-at.invariant (no_texts_past _ _ (omega arith))

@@ -21,5 +21,5 @@ pub returns : goal.returns
 returns c = unnamed
   where
     unnamed : (F : Family) → c.args.name.now ≡ name_of F → ⊥
-    unnamed Forbidden e = refused (c.same.ensures.1 e) c.if1.false
+    unnamed Forbidden e = refused (c.same.ensures.1 e) c.if-same.false
     unnamed Allowed e = refused (c.same-2.ensures.1 e) c.if-same-2.false

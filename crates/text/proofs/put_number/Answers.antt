@@ -11,7 +11,7 @@ use Rattle.text.proofs.put_number.Goals as goal
 pub returns : goal.returns
 returns c =
     record {
-      numeral = take (20 - c.spell.result) (drop c.spell.result c.spell.new.1.0);
-      right = subst (λ (t : List ℕ). Numeral t at_spell.before.before.before.args.n) (sym (take_all (20 - c.spell.result) (drop c.spell.result c.spell.new.1.0) (simp length-drop (omega arith)))) c.spell.ensures.1;
+      numeral = take (20 - c.spell-from.result) (drop c.spell-from.result c.spell-from.new.text);
+      right = subst (λ (t : List ℕ). Numeral t c.args.n) (sym (take_all (20 - c.spell-from.result) (drop c.spell-from.result c.spell-from.new.text) (simp length-drop (omega arith)))) c.spell-from.ensures.1;
       written = c.put.ensures;
     }

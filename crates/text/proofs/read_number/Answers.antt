@@ -11,6 +11,7 @@ use borrow.Author.Count.{below_more}
 use Rattle.text.specs.Numeral.{IsDigit, value_from}
 use Rattle.text.proofs.Value.{value_grows, value_step}
 use Rattle.text.proofs.read_number.Goals as goal
+use Rattle.text.proofs.read_number.Goals.{then-word-eq48+else-word-gt1, else-word-eq48}
 
 -- a word whose digits so far are worth n does not write a number below 2 ^ 64, if n with the next digit is not below it
 too_big_lem : (word : List ℕ) (n i m : ℕ) → i < length word → 2 ^ 64 ≤ n * 10 + (get_or word i 0 - 48) → value_from n (drop i word) ≡ value_from 0 word → m < 2 ^ 64 → value_from 0 word ≡ m → ⊥
@@ -33,7 +34,7 @@ pub returns-then-word-gt1 : goal.returns-then-word-gt1
 returns-then-word-gt1 c = λ n h o. o.plain c.if-word-gt1.true c.if-word-eq48.true
 
 pub loop-i-init : goal.loop-i-init
-loop-i-init c = (omega arith, omega arith, ⊎_elim (λ w. λ l e. omega arith) (λ w. λ l e. w.left e) c.if-word-eq48.branch, λ k l. absurd (omega arith), refl)
+loop-i-init c = (omega arith, omega arith, elim c.if-word-eq48.branch [ then-word-eq48+else-word-gt1 w ↦ λ l e. omega arith | else-word-eq48 w ↦ λ l e. w.if-word-eq48.false e ], λ k l. absurd (omega arith), refl)
 
 pub bounds-word-i : goal.bounds-word-i
 bounds-word-i c = omega arith
@@ -69,18 +70,17 @@ pub loop-i-smaller : goal.loop-i-smaller
 loop-i-smaller c = omega arith
 
 pub loop-i-preserved : goal.loop-i-preserved
-loop-i-preserved c =
-    (
-      omega arith,
-      omega arith,
-      c.loop-i.invariant.2,
-      below_more (λ k. IsDigit (get_or c.args.word.now k 0)) _ c.loop-i.invariant.3 (omega arith, omega arith),
-      read_on c.args.word.now _ _ _ (omega arith) c.wide-d.ensures ∙ c.loop-i.invariant.4,
-    )
+loop-i-preserved c = (
+  omega arith,
+  omega arith,
+  c.loop-i.invariant.2,
+  below_more (λ k. IsDigit (get_or c.args.word.now k 0)) _ c.loop-i.invariant.3 (omega arith, omega arith),
+  read_on c.args.word.now _ _ _ (omega arith) c.wide-d.ensures ∙ c.loop-i.invariant.4,
+)
 
 pub returns : goal.returns
 returns c =
-    let all : c.loop-i.i ≡ length word = omega arith in (
+    let all : c.loop-i.i ≡ length c.args.word.now = omega arith in (
       record {
         some = omega arith;
         digits = λ k l. c.loop-i.invariant.3 k (omega arith);

@@ -40,7 +40,7 @@ pub nonzero_div-factor : goal.nonzero_div-factor
 nonzero_div-factor c = omega arith
 
 pub returns-then-factor-whole : goal.returns-then-factor-whole
-returns-then-factor-whole c = cut c.args.n c.args.k _ (c.loop-i.i + 1) c.nearer-j.ensures.0 c.nearer-j.ensures.1 (omega arith) (omega (arith, (turn (goal.at.returns-then-factor-whole (goal.at.returns-then-factor-whole c).Then-factor-whole).In-loop-i).next, past _ _ _ (omega arith) c.if-factor-whole.true))
+returns-then-factor-whole c = cut c.args.n c.args.k _ (c.loop-i.i + 1) c.nearer-j.ensures.0 c.nearer-j.ensures.1 (omega arith) (omega (arith, (turn (goal.at.returns-then-factor-whole c).In-loop-i).next, past _ _ _ (omega arith) c.if-factor-whole.true))
 
 pub overflow_mul-most : goal.overflow_mul-most
 overflow_mul-most c = omega (arith, first (goal.at.overflow_mul-most c).Else-factor-whole)
@@ -49,7 +49,7 @@ pub nonzero_rem-rest : goal.nonzero_rem-rest
 nonzero_rem-rest c = omega arith
 
 pub overflow_mul-rest : goal.overflow_mul-rest
-overflow_mul-rest c = omega (arith, (turn (goal.at.overflow_mul-rest (goal.at.overflow_mul-rest c).Else-factor-whole).In-loop-i).small)
+overflow_mul-rest c = omega (arith, (turn (goal.at.overflow_mul-rest c).In-loop-i).small)
 
 pub nonzero_div-rest : goal.nonzero_div-rest
 nonzero_div-rest c = omega arith
@@ -58,16 +58,16 @@ pub overflow_sub-most : goal.overflow_sub-most
 overflow_sub-most c = omega (arith, first (goal.at.overflow_sub-most c).Else-factor-whole)
 
 pub returns-then-most-rest : goal.returns-then-most-rest
-returns-then-most-rest c = cut c.args.n c.args.k _ (c.loop-i.i + 1) c.nearer-j.ensures.0 c.nearer-j.ensures.1 (omega arith) (omega (arith, (turn (goal.at.returns-then-most-rest (goal.at.returns-then-most-rest c).Then-most-rest).In-loop-i).next, first (goal.at.returns-then-most-rest (goal.at.returns-then-most-rest c).Then-most-rest).Else-factor-whole, c.if-most-rest.true))
+returns-then-most-rest c = cut c.args.n c.args.k _ (c.loop-i.i + 1) c.nearer-j.ensures.0 c.nearer-j.ensures.1 (omega arith) (omega (arith, (turn (goal.at.returns-then-most-rest c).In-loop-i).next, first (goal.at.returns-then-most-rest c).Else-factor-whole, c.if-most-rest.true))
 
 pub overflow_add-c : goal.overflow_add-c
-overflow_add-c c = omega (arith, first (goal.at.overflow_add-c (goal.at.overflow_add-c c).Else-most-rest).Else-factor-whole)
+overflow_add-c c = omega (arith, first (goal.at.overflow_add-c c).Else-factor-whole)
 
 pub loop-i-smaller : goal.loop-i-smaller
 loop-i-smaller c = omega arith
 
 pub loop-i-preserved : goal.loop-i-preserved
-loop-i-preserved c = (omega arith, (turn (goal.at.loop-i-preserved (goal.at.loop-i-preserved c).Else-most-rest).In-loop-i).next, omega (arith, first (goal.at.loop-i-preserved (goal.at.loop-i-preserved c).Else-most-rest).Else-factor-whole))
+loop-i-preserved c = (omega arith, (turn (goal.at.loop-i-preserved c).In-loop-i).next, omega (arith, first (goal.at.loop-i-preserved c).Else-factor-whole))
 
 pub returns : goal.returns
 returns c =

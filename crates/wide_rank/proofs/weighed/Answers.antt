@@ -51,7 +51,7 @@ at-c-requires c = omega (arith, within (goal.at.at-c-requires c).After-shift)
 
 pub returns-then-c : goal.returns-then-c
 returns-then-c c =
-    let big : 2 ^ 64 ≤ rank_of c.args.family c.args.word.now = omega (arith, turn (goal.at.returns-then-c (goal.at.returns-then-c c).Then-c).After-shift, told-big (get_or c.args.word.now c.loop-i.i 0 + c.shift.result) (c.loop-i.i + 1) _ (omega (arith, within (goal.at.returns-then-c (goal.at.returns-then-c c).Then-c).After-shift)) c.at-c.ensures c.if-c.true) in
+    let big : 2 ^ 64 ≤ rank_of c.args.family c.args.word.now = omega (arith, turn (goal.at.returns-then-c c).After-shift, told-big (get_or c.args.word.now c.loop-i.i 0 + c.shift.result) (c.loop-i.i + 1) _ (omega (arith, within (goal.at.returns-then-c c).After-shift)) c.at-c.ensures c.if-c.true) in
     sym (held-refuses _ big)
 
 pub overflow_sub-sum : goal.overflow_sub-sum
@@ -59,7 +59,7 @@ overflow_sub-sum c = omega arith
 
 pub returns-then-sum-c : goal.returns-then-sum-c
 returns-then-sum-c c =
-    let big : 2 ^ 64 ≤ rank_of c.args.family c.args.word.now = omega (arith, turn (goal.at.returns-then-sum-c (goal.at.returns-then-sum-c c).Then-sum-c).After-shift, weight (goal.at.returns-then-sum-c (goal.at.returns-then-sum-c c).Then-sum-c).Else-c, c.if-sum-c.true) in
+    let big : 2 ^ 64 ≤ rank_of c.args.family c.args.word.now = omega (arith, turn (goal.at.returns-then-sum-c c).After-shift, weight (goal.at.returns-then-sum-c c).Else-c, c.if-sum-c.true) in
     sym (held-refuses _ big)
 
 pub overflow_add-sum : goal.overflow_add-sum
@@ -72,7 +72,7 @@ pub loop-i-smaller : goal.loop-i-smaller
 loop-i-smaller c = omega arith
 
 pub loop-i-preserved : goal.loop-i-preserved
-loop-i-preserved c = (omega arith, omega arith, omega (arith, turn (goal.at.loop-i-preserved (goal.at.loop-i-preserved c).Else-sum-c).After-shift, weight (goal.at.loop-i-preserved (goal.at.loop-i-preserved c).Else-sum-c).Else-c))
+loop-i-preserved c = (omega arith, omega arith, omega (arith, turn (goal.at.loop-i-preserved c).After-shift, weight (goal.at.loop-i-preserved c).Else-c))
 
 pub returns : goal.returns
 returns c =

@@ -41,7 +41,7 @@ at-c-requires c = omega (arith, (next (goal.at.at-c-requires c).After-lowest).lo
 pub returns-then-c : goal.returns-then-c
 returns-then-c c =
     let l : choose (c.lowest.result + 64) (c.loop-left.i + 1) ≡ choose (64 + c.lowest.result) (c.loop-left.i + 1) = ap (λ (n : ℕ). choose n (c.loop-left.i + 1)) (add_comm c.lowest.result 64) in
-    let big : 2 ^ 64 ≤ total c.args.low c.args.high = omega (arith, (next (goal.at.returns-then-c (goal.at.returns-then-c c).Then-c).After-lowest).whole, l, told-big (64 + c.lowest.result) (c.loop-left.i + 1) _ (omega (arith, (next (goal.at.returns-then-c (goal.at.returns-then-c c).Then-c).After-lowest).low)) c.at-c.ensures c.if-c.true) in
+    let big : 2 ^ 64 ≤ total c.args.low c.args.high = omega (arith, (next (goal.at.returns-then-c c).After-lowest).whole, l, told-big (64 + c.lowest.result) (c.loop-left.i + 1) _ (omega (arith, (next (goal.at.returns-then-c c).After-lowest).low)) c.at-c.ensures c.if-c.true) in
     simp (le-leb _ _ big)
 
 pub overflow_sub-sum : goal.overflow_sub-sum
@@ -49,20 +49,20 @@ overflow_sub-sum c = omega arith
 
 pub returns-then-sum-c : goal.returns-then-sum-c
 returns-then-sum-c c =
-    let big : 2 ^ 64 ≤ total c.args.low c.args.high = omega (arith, (next (goal.at.returns-then-sum-c (goal.at.returns-then-sum-c c).Then-sum-c).After-lowest).whole, weight (goal.at.returns-then-sum-c (goal.at.returns-then-sum-c c).Then-sum-c).Else-c, c.if-sum-c.true) in
+    let big : 2 ^ 64 ≤ total c.args.low c.args.high = omega (arith, (next (goal.at.returns-then-sum-c c).After-lowest).whole, weight (goal.at.returns-then-sum-c c).Else-c, c.if-sum-c.true) in
     simp (le-leb _ _ big)
 
 pub overflow_add-sum : goal.overflow_add-sum
 overflow_add-sum c = omega arith
 
 pub overflow_add-i-in-loop-left : goal.overflow_add-i-in-loop-left
-overflow_add-i-in-loop-left c = omega (arith, c.loop-left.invariant.0.few, (next (goal.at.overflow_add-i-in-loop-left (goal.at.overflow_add-i-in-loop-left c).After-without_lowest-left).After-lowest).some)
+overflow_add-i-in-loop-left c = omega (arith, c.loop-left.invariant.0.few, (next (goal.at.overflow_add-i-in-loop-left c).After-lowest).some)
 
 pub loop-left-smaller : goal.loop-left-smaller
-loop-left-smaller c = omega (arith, ap length c.without_lowest-left.ensures, length-drop 1 (set_bits c.loop-left.left), (next (goal.at.loop-left-smaller (goal.at.loop-left-smaller c).After-without_lowest-left).After-lowest).some)
+loop-left-smaller c = omega (arith, ap length c.without_lowest-left.ensures, length-drop 1 (set_bits c.loop-left.left), (next (goal.at.loop-left-smaller c).After-lowest).some)
 
 pub loop-left-preserved : goal.loop-left-preserved
-loop-left-preserved c = (weighing_on _ _ _ _ _ _ _ _ (next (goal.at.loop-left-preserved (goal.at.loop-left-preserved c).After-without_lowest-left).After-lowest) c.loop-left.invariant.0 (weight (goal.at.loop-left-preserved (goal.at.loop-left-preserved c).After-without_lowest-left).Else-c) c.without_lowest-left.ensures (search rules), omega arith)
+loop-left-preserved c = (weighing_on _ _ _ _ _ _ _ _ (next (goal.at.loop-left-preserved c).After-lowest) c.loop-left.invariant.0 (weight (goal.at.loop-left-preserved c).Else-c) c.without_lowest-left.ensures (search rules), omega arith)
 
 pub returns : goal.returns
 returns c =

@@ -28,7 +28,7 @@ place : (c : After-shift)
     → Place c.args.family (whole c.args.set) (whole c.loop-family.left) c.loop-family.i c.lowest.result c.shift.result
 place c =
     let left : ℕ = whole c.loop-family.left in
-    let n : whole c.loop-family.left ≡ 0 → ⊥ = eqb-false left 0 (sym c.is_empty.ensures ∙ not-true _ c.loop-family-test.true) in
+    let n : whole c.loop-family.left ≡ 0 → ⊥ = eqb-false left 0 (sym c.is_empty.ensures ∙ c.loop-family-test.true) in
     next_place c.args.family (whole c.args.set) left c.loop-family.i c.lowest.result c.shift.result c.loop-family.invariant.set (positive left n)
     (c.lowest.ensures ∙ get_d_any (set_bits left) 0 128 64 (some left n)) c.shift.ensures
 
@@ -45,18 +45,18 @@ pub bounds-out-i : goal.bounds-out-i
 bounds-out-i c = omega (arith, (place (goal.at.bounds-out-i c).After-shift).within, c.loop-family.invariant.filled.long)
 
 pub overflow_add-i : goal.overflow_add-i
-overflow_add-i c = omega (arith, (place (goal.at.overflow_add-i (goal.at.overflow_add-i c).After-without_lowest-left).After-shift).within, few (goal.at.overflow_add-i (goal.at.overflow_add-i c).After-without_lowest-left).After-shift)
+overflow_add-i c = omega (arith, (place (goal.at.overflow_add-i c).After-shift).within, few (goal.at.overflow_add-i c).After-shift)
 
 pub loop-family-smaller : goal.loop-family-smaller
-loop-family-smaller c = omega (arith, (place (goal.at.loop-family-smaller (goal.at.loop-family-smaller c).After-without_lowest-left).After-shift).within)
+loop-family-smaller c = omega (arith, (place (goal.at.loop-family-smaller c).After-shift).within)
 
 pub loop-family-preserved : goal.loop-family-preserved
 loop-family-preserved c =
-    spelling_turn c.args.family (whole c.args.set) c.args.out.now c.loop-family.out (whole c.loop-family.left) c.loop-family.i c.lowest.result c.shift.result (whole c.without_lowest-left.result) c.loop-family.invariant (place (goal.at.loop-family-preserved (goal.at.loop-family-preserved c).After-without_lowest-left).After-shift) c.requires c.without_lowest-left.ensures
+    spelling_turn c.args.family (whole c.args.set) c.args.out.now c.loop-family.out (whole c.loop-family.left) c.loop-family.i c.lowest.result c.shift.result (whole c.without_lowest-left.result) c.loop-family.invariant (place (goal.at.loop-family-preserved c).After-shift) c.requires c.without_lowest-left.ensures
 
 pub shape_of-out : goal.shape_of-out
 shape_of-out c = c.loop-family.invariant.filled.long
 
 pub returns : goal.returns
 returns c =
-    spelling_ends c.args.family (whole c.args.set) c.args.out.now c.loop-family.out (whole c.loop-family.left) c.loop-family.i c.loop-family.invariant (eqb-true _ 0 (sym c.is_empty.ensures ∙ not-false _ c.loop-family-test.false)) c.requires
+    spelling_ends c.args.family (whole c.args.set) c.args.out.now c.loop-family.out (whole c.loop-family.left) c.loop-family.i c.loop-family.invariant (eqb-true _ 0 (sym c.is_empty.ensures ∙ c.loop-family-test.false)) c.requires

@@ -10,13 +10,13 @@ use Rattle.wide_unrank.proofs.unrank.Goals as goal
 pub returns-in_default : goal.returns-in_default
 returns-in_default c =
     let u = wide_unrank_by_index c.args.family c.args.n c.args.k c.args.r (length c.args.out.now) ∙ ap (λ s. and_then s (λ x. wide_spell_says c.args.family x (length c.args.out.now))) (sym c.unrank_over-a.ensures ∙ ap wide_indexed_says (c.in_default.is ∙ c.in-Refused.is)) in
-    (sym (ap places_of u), sym (ap (λ s. after s c.args.out.now) u))
+    record { says = sym (ap places_of u); holds = sym (ap (λ s. after s c.args.out.now) u) }
 
 pub returns-then-out-k : goal.returns-then-out-k
 returns-then-out-k c =
     let t = unpacks c.args.family c.args.n c.args.k c.args.r _ (sym c.unrank_over-a.ensures ∙ ap wide_indexed_says c.in-At.is) in
     let u = t.short (length c.args.out.now) c.if-out-k.true in
-    (sym (ap places_of u), sym (ap (λ s. after s c.args.out.now) u))
+    record { says = sym (ap places_of u); holds = sym (ap (λ s. after s c.args.out.now) u) }
 
 pub spell-requires : goal.spell-requires
 spell-requires c =
@@ -27,4 +27,4 @@ pub returns : goal.returns
 returns c =
     let t = unpacks c.args.family c.args.n c.args.k c.args.r _ (sym c.unrank_over-a.ensures ∙ ap wide_indexed_says c.in-At.is) in
     let u = t.enough (length c.args.out.now) c.if-out-k.false in
-    (ap gives (sym t.long) ∙ sym (ap places_of u), c.spell.ensures ∙ sym (ap (λ s. after s c.args.out.now) u))
+    record { says = ap gives (sym t.long) ∙ sym (ap places_of u); holds = c.spell.ensures ∙ sym (ap (λ s. after s c.args.out.now) u) }

@@ -16,7 +16,7 @@ weight c = held_exactly _ _ _ c.at-c.ensures (next_held _ _ (omega arith) c.loop
 -- where it is taken
 after : (c : Then-c-left) → Above 64 128 c.args.k c.args.r (c.loop-s.s - 1) (c.loop-s.i - 1) (c.loop-s.left - c.at-c.result) (c.loop-s.high + 1 * 2 ^ (c.loop-s.s - 1 - 64) % 2 ^ 64)
 after c =
-    above_taken _ _ _ _ _ _ _ _ _ _ (omega arith) (has-place _ _ _ _ _ _ _ _ _ c.loop-s.invariant (weight c.After-at-c) c.if-c-left.true) c.loop-s.invariant (weight c.After-at-c) c.if-c-left.true
+    above_taken _ _ _ _ _ _ _ _ _ _ (omega arith) (has-place _ _ _ _ _ _ _ _ _ c.loop-s.invariant (weight c.before) c.if-c-left.true) c.loop-s.invariant (weight c.before) c.if-c-left.true
     (one_shl 64 _ (omega (arith, c.loop-s.invariant.walk.low)))
 
 pub loop-s-init : goal.loop-s-init
@@ -38,7 +38,7 @@ pub overflow_add-high : goal.overflow_add-high
 overflow_add-high c = record { fits = high_fits 64 64 _ _ _ _ _ _ (after (goal.at.overflow_add-high c).Then-c-left) }
 
 pub overflow_sub-i : goal.overflow_sub-i
-overflow_sub-i c = has-place _ _ _ _ _ _ _ _ _ c.loop-s.invariant (weight (goal.at.overflow_sub-i (goal.at.overflow_sub-i c).Then-c-left).After-at-c) c.if-c-left.true
+overflow_sub-i c = has-place _ _ _ _ _ _ _ _ _ c.loop-s.invariant (weight (goal.at.overflow_sub-i c).After-at-c) c.if-c-left.true
 
 pub loop-s-smaller-then-c-left : goal.loop-s-smaller-then-c-left
 loop-s-smaller-then-c-left c = omega arith
@@ -50,7 +50,7 @@ pub loop-s-smaller : goal.loop-s-smaller
 loop-s-smaller c = omega arith
 
 pub loop-s-preserved : goal.loop-s-preserved
-loop-s-preserved c = above_passed _ _ _ _ _ _ _ _ _ (omega arith) c.loop-s.invariant (weight (goal.at.loop-s-preserved (goal.at.loop-s-preserved c).Else-c-left).After-at-c) (omega arith)
+loop-s-preserved c = above_passed _ _ _ _ _ _ _ _ _ (omega arith) c.loop-s.invariant (weight (goal.at.loop-s-preserved c).After-at-c) (omega arith)
 
 pub word-low-requires : goal.word-low-requires
 word-low-requires c = (omega arith, low_fits _ _ _ _ _ _ _ _ (omega arith) c.loop-s.invariant)

@@ -1,9 +1,5 @@
 use mathlib.Core.Path.{sym}
-use Rattle.capi.proofs.derivatives.gudrenoss_derivative.Reads as reads
-use Rattle.capi.proofs.derivatives.gudrenoss_derivative.Lts as lts
-use Rattle.boundary.proofs.number.Reads as number-reads
-use Rattle.derivative.proofs.derivative.Reads as derivative-reads
 use Rattle.capi.proofs.derivatives.gudrenoss_derivative.Goals as goal
 
 pub returns : goal.returns
-returns c = simp (sym c.derivative.ensures.0) (c.number.ensures.0, (c.number.ensures.1, c.derivative.ensures.1))
+returns c = simp (sym c.derivative.ensures.says) record { back = c.number.ensures.back; written = c.number.ensures.holds; holds = c.derivative.ensures.holds }

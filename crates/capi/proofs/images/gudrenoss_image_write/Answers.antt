@@ -2,4 +2,4 @@
 use Rattle.capi.proofs.images.gudrenoss_image_write.Goals as goal
 
 pub returns : goal.returns
-returns c = (simp c.write.ensures.0 at c.number.ensures.0, (simp c.write.ensures.0 at c.number.ensures.1, c.write.ensures.1))
+returns c = record { back = simp c.write.ensures.says at c.number.ensures.back; written = simp c.write.ensures.says at c.number.ensures.holds; holds = c.write.ensures.holds }

@@ -6,7 +6,4 @@ use Rattle.capi.proofs.permutations.gudrenoss_permutation_successor.Goals as goa
 
 pub returns : goal.returns
 returns c =
-    let h = told_of arrangement_successor_says _ _ _ c.lent.ensures c.successor.ensures in (
-      c.arranged.ensures.0 ∙ ap (λ s. status s) h.says,
-      (c.arranged.ensures.1.0 ∙ stored-part (λ p. p.entries) _ _ _ h, c.arranged.ensures.1.1 ∙ stored-part (λ p. p.len) _ _ _ h),
-    )
+    let h = told_of arrangement_successor_says _ _ _ c.lent.ensures c.successor.ensures in record { back = c.arranged.ensures.back ∙ ap (λ s. status s) h.says; holds = c.arranged.ensures.holds ∙ stored-part (λ p. p.entries) _ _ _ h; long = c.arranged.ensures.long ∙ stored-part (λ p. p.len) _ _ _ h }

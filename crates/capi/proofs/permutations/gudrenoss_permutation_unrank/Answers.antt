@@ -5,7 +5,4 @@ use Rattle.capi.proofs.permutations.gudrenoss_permutation_unrank.Goals as goal
 
 pub returns : goal.returns
 returns c =
-    (
-      c.arranged.ensures.0 ∙ ap (λ s. status s) c.unrank.ensures.says,
-      (c.arranged.ensures.1.0 ∙ stored-part (λ p. p.entries) _ _ _ c.unrank.ensures, c.arranged.ensures.1.1 ∙ stored-part (λ p. p.len) _ _ _ c.unrank.ensures),
-    )
+    record { back = c.arranged.ensures.back ∙ ap (λ s. status s) c.unrank.ensures.says; holds = c.arranged.ensures.holds ∙ stored-part (λ p. p.entries) _ _ _ c.unrank.ensures; long = c.arranged.ensures.long ∙ stored-part (λ p. p.len) _ _ _ c.unrank.ensures }

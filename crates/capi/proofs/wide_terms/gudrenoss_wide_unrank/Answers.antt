@@ -2,4 +2,4 @@
 use Rattle.capi.proofs.wide_terms.gudrenoss_wide_unrank.Goals as goal
 
 pub returns : goal.returns
-returns c = (simp (c.unrank.ensures.0, c.family.ensures) at c.number.ensures.0, (simp (c.unrank.ensures.0, c.family.ensures) at c.number.ensures.1, simp c.family.ensures at c.unrank.ensures.1))
+returns c = record { back = simp (c.unrank.ensures.says, c.family.ensures) at c.number.ensures.back; written = simp (c.unrank.ensures.says, c.family.ensures) at c.number.ensures.holds; holds = simp c.family.ensures at c.unrank.ensures.holds }
