@@ -10,20 +10,20 @@
 //   exponents       to a word, from a word, rank, from a rank, addition
 //   images          check, row, lookup, lookup by a row, writing; the check of an image in pieces
 //   masses          the sample of two readings, and the mass of one frame
-//   derivatives     the derivative of a surface
-//   lexicographic   rank, unrank and successor in lexicographic order, and the converter of old tables
+//   derivation      the derivative of a surface
+//   old_order       rank, unrank and successor in lexicographic order, and the converter of old tables
 //   wide_terms      count, rank, unrank, the next term, merge and delete of wide indices
 //   batches         the ranks of many indices
 //   version         the version of the library
 #![tactic(auto)]
 
 mod batches;
-mod derivatives;
+mod derivation;
 mod digit_words;
 mod exponents;
 mod images;
-mod lexicographic;
 mod masses;
+mod old_order;
 mod permutations;
 mod sets;
 mod shapes;

@@ -2,6 +2,7 @@
 use mathlib.Core.Path.{◌≡◌}
 use Prim.Native.Nat.{◌≤◌, ◌<◌, ◌-◌, ◌^◌}
 use lib.ListN.{length, drop}
+use Rattle.positional.specs.Positional.{product as product_of}
 use Rattle.cartesian.proofs.size.Given as goal
 
 abbrev pub invariant-loop-i : goal.invariant-loop-i

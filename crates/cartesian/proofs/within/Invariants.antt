@@ -2,6 +2,7 @@
 use mathlib.Core.Path.{◌≡◌}
 use Prim.Native.Nat.{◌≤◌, ◌-◌}
 use lib.ListN.{length, drop}
+use Rattle.cartesian.specs.Checks.{within as within_of}
 use Rattle.cartesian.proofs.within.Given as goal
 
 abbrev pub invariant-loop-i : goal.invariant-loop-i

@@ -1,5 +1,5 @@
 use mathlib.Core.Path.{sym}
-use Rattle.capi.proofs.derivatives.gudrenoss_derivative.Goals as goal
+use Rattle.capi.proofs.derivation.gudrenoss_derivative.Goals as goal
 
 pub returns : goal.returns
 returns c = simp (sym c.derivative.ensures.says) record { back = c.number.ensures.back; written = c.number.ensures.holds; holds = c.derivative.ensures.holds }
