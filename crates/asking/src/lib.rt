@@ -4,24 +4,20 @@
 
 ghost use Rattle.std.specs.Prelude.{◌≤◌, length};
 
-use replies::Reply;
-use requests::{Begun, Rest};
+use replies::Answered;
 use std::io;
 
-// The answer by the group that knows the verb, of those whose calls write to a lent output; bad if none does.
-fn reply_lent(verb: &[u8], kinds: &[u8], values: &[u64], lent: &mut [u64]) -> Reply {
-    let r = term_verbs::reply(verb, kinds, values, lent);
-    let Reply::Bad = r else {
-        return r;
-    };
-    let r = shape_verbs::reply(verb, kinds, values, lent);
-    let Reply::Bad = r else {
-        return r;
-    };
-    let r = wide_verbs::reply(verb, kinds, values, lent);
-    let Reply::Bad = r else {
-        return r;
-    };
+// The answer by the group that knows the verb, of those whose calls write to a lent output; none if no group does.
+fn reply_lent(verb: &[u8], kinds: &[u8], values: &[u64], lent: &mut [u64]) -> Answered {
+    if let Some(r) = term_verbs::reply(verb, kinds, values, lent)? {
+        return Ok(Some(r));
+    }
+    if let Some(r) = shape_verbs::reply(verb, kinds, values, lent)? {
+        return Ok(Some(r));
+    }
+    if let Some(r) = wide_verbs::reply(verb, kinds, values, lent)? {
+        return Ok(Some(r));
+    }
     lexical_verbs::reply(verb, kinds, values, lent)
 }
 
@@ -36,11 +32,16 @@ fn lent_of(room: u64, n: usize) -> usize
 }
 
 // The reply to a request, given the words after its verb. Permutations are given in any of the places; other calls are lent the first.
-fn reply_verb(verb: &[u8], kinds: &[u8], values: &[u64], room: u64, places: &mut [u64]) -> Reply {
-    let r = permutation_verbs::reply(verb, kinds, values, places);
-    let Reply::Bad = r else {
-        return r;
-    };
+fn reply_verb(
+    verb: &[u8],
+    kinds: &[u8],
+    values: &[u64],
+    room: u64,
+    places: &mut [u64],
+) -> Answered {
+    if let Some(r) = permutation_verbs::reply(verb, kinds, values, places)? {
+        return Ok(Some(r));
+    }
     let lent = lent_of(room, places.len());
     reply_lent(verb, kinds, values, &mut places[0..lent])
 }
@@ -53,7 +54,7 @@ fn reply_words(
     values: &[u64],
     room: u64,
     places: &mut [u64],
-) -> Reply
+) -> Answered
     requires { (n ≤ length kinds.now) × (n ≤ length values.now) }
 {
     reply_verb(verb, &kinds[0..n], &values[0..n], room, places)
@@ -61,18 +62,18 @@ fn reply_words(
 
 // The reply to a line whose verb stands from place `from` up to `end`, where its words say one thing each. No such request has more words
 // after its verb than two lists of 80 numbers and the `/` between them.
-fn reply_at(line: &[u8], room: u64, from: usize, end: usize, places: &mut [u64]) -> Reply
+fn reply_at(line: &[u8], room: u64, from: usize, end: usize, places: &mut [u64]) -> Answered
     requires { (from ≤ end) × (end ≤ length line.now) }
 {
     let mut kinds = [0u8; 161];
     let mut values = [0u64; 161];
     match requests::words(line, end + 1, &mut kinds, &mut values) {
-        Rest::Words(n) => reply_words(&line[from..end], n, &kinds, &values, room, places),
-        Rest::Bad => Reply::Bad,
+        Some(n) => reply_words(&line[from..end], n, &kinds, &values, room, places),
+        None => Ok(None),
     }
 }
 
-// The answer by the group that knows the verb, of those with bytes among their words, which are read into a buffer; bad if none does. The words stand from
+// The answer by the group that knows the verb, of those with bytes among their words, which are read into a buffer; none if no group does. The words stand from
 // place `at` of the line; calls are lent `written`, and `asked` says whether that much was asked for.
 fn reply_written(
     verb: &[u8],
@@ -82,15 +83,13 @@ fn reply_written(
     written: &mut [u8],
     places: &mut [u64],
     asked: bool,
-) -> Reply {
-    let r = image_verbs::reply(verb, line, at, bytes, written, places);
-    let Reply::Bad = r else {
-        return r;
-    };
-    let r = mass_verbs::reply(verb, line, at, bytes);
-    let Reply::Bad = r else {
-        return r;
-    };
+) -> Answered {
+    if let Some(r) = image_verbs::reply(verb, line, at, bytes, written, places)? {
+        return Ok(Some(r));
+    }
+    if let Some(r) = mass_verbs::reply(verb, line, at, bytes)? {
+        return Ok(Some(r));
+    }
     lexical_verbs::converted(verb, line, at, bytes, written, asked)
 }
 
@@ -104,7 +103,7 @@ fn reply_bytes(
     bytes: &mut [u8],
     written: &mut [u8],
     places: &mut [u64],
-) -> Reply
+) -> Answered
     requires { (from ≤ end) × (end ≤ length line.now) }
 {
     let lent = lent_of(room, written.len());
@@ -127,7 +126,7 @@ fn reply_signed(
     end: usize,
     table: &mut [i64],
     entries: &mut [i64],
-) -> Reply
+) -> Answered
     requires { (from ≤ end) × (end ≤ length line.now) }
 {
     let lent = lent_of(room, entries.len());
@@ -138,6 +137,29 @@ fn reply_signed(
         table,
         &mut entries[0..lent],
     )
+}
+
+// The reply to a line whose verb stands from place `from` up to `end`, by the words that it may have: one thing each, bytes, or signed numbers.
+fn reply_line(
+    line: &[u8],
+    room: u64,
+    from: usize,
+    end: usize,
+    bytes: &mut [u8],
+    written: &mut [u8],
+    places: &mut [u64],
+    entries: &mut [i64],
+) -> Answered
+    requires { (from ≤ end) × (end ≤ length line.now) }
+{
+    if let Some(r) = reply_at(line, room, from, end, places)? {
+        return Ok(Some(r));
+    }
+    if let Some(r) = reply_bytes(line, room, from, end, bytes, written, places)? {
+        return Ok(Some(r));
+    }
+    let mut table = [0i64; 80];
+    reply_signed(line, room, from, end, &mut table, entries)
 }
 
 // The answer to a line whose verb stands from place `from` up to `end`. No call writes more than 128 places.
@@ -154,24 +176,26 @@ fn answer_at(
     requires { (from ≤ end) × (end ≤ length line.now) }
 {
     let mut places = [0u64; 140];
-    let mut table = [0i64; 80];
     let mut entries = [0i64; 80];
-    let r = reply_at(line, room, from, end, &mut places);
-    let Reply::Bad = r else {
-        return replies::put(out, at, r, &places, written, &entries);
-    };
-    let r = reply_bytes(line, room, from, end, bytes, written, &mut places);
-    let Reply::Bad = r else {
-        return replies::put(out, at, r, &places, written, &entries);
-    };
-    let r = reply_signed(line, room, from, end, &mut table, &mut entries);
-    replies::put(out, at, r, &places, written, &entries)
+    let a = reply_line(
+        line,
+        room,
+        from,
+        end,
+        bytes,
+        written,
+        &mut places,
+        &mut entries,
+    );
+    replies::put(out, at, a, &places, written, &entries)
 }
 
 fn answer(line: &[u8], bytes: &mut [u8], written: &mut [u8], out: &mut [u8], at: usize) -> usize {
     match requests::head(line) {
-        Begun::Verb(room, from, end) => answer_at(line, room, from, end, bytes, written, out, at),
-        Begun::Bad => replies::bad(out, at),
+        Some(verb) => answer_at(
+            line, verb.room, verb.from, verb.end, bytes, written, out, at,
+        ),
+        None => replies::bad(out, at),
     }
 }
 
@@ -214,15 +238,12 @@ fn answer_block(
 ) -> io::Result<usize> {
     let mut held = before;
     let mut at = 0;
-    let mut i = 0;
-    while i < block.len() {
-        let b = block[i];
-        i += 1;
-        if b == b'\n' {
+    for b in block {
+        if *b == b'\n' {
             at = answer_held(rt, line, held, bytes, written, out, at)?;
             held = 0;
         } else {
-            held = hold(line, held, b);
+            held = hold(line, held, *b);
         }
     }
     streams::flush(rt, out, at)?;
@@ -245,7 +266,7 @@ fn answer_last(
     Ok(())
 }
 
-// Answers the input block by block. Nothing says that an input ends, so the blocks are counted down from a number that no run uses up.
+// Answers the input block by block. Nothing says that an input ends, so the blocks are counted up to a number that no run reaches.
 fn answer_input(
     rt: &(impl Input + Print),
     block: &mut [u8],
@@ -255,14 +276,12 @@ fn answer_input(
     out: &mut [u8],
 ) -> io::Result<()> {
     let mut held = 0;
-    let mut turns = u64::MAX;
-    while turns > 0 {
+    for _ in 0..u64::MAX {
         let n = streams::read_some(rt, block)?;
         if n == 0 {
             return answer_last(rt, line, held, bytes, written, out);
         }
         held = answer_block(rt, &block[0..n], line, held, bytes, written, out)?;
-        turns -= 1;
     }
     Ok(())
 }

@@ -14,19 +14,18 @@
 --   standing_of w, over_of w, at_of w, remaining_of w    these parts of a walk; the alphabet and the bits are 0 where it stands nowhere
 --   alphabet_given m, bits_given m    the two parts of the index that a step gives
 --   standing_after m, over_after m, at_after m, remaining_after m    the parts of the walk after it
-use Rattle.std.specs.Prelude.{Bool, true, false, List, ℕ}
+use Rattle.std.specs.Prelude.{Option, Some, None, Bool, true, false, List, ℕ}
 use Rattle.words.specs.declared.Family.{Family}
 use Rattle.words.specs.declared.Family.TheVariants.{Forbidden, Allowed}
 use Rattle.answers.specs.declared.Sign.{Sign}
 use Rattle.answers.specs.declared.Sign.TheVariants.{Plus, Minus}
 use Rattle.answers.specs.declared.Index.{Index}
-use Rattle.answers.specs.Says.{Says, refuses_with, gives, SignedTerm, place_of}
-use Rattle.monotone_walk.specs.declared.Current.{Current}
-use Rattle.monotone_walk.specs.declared.Current.TheVariants.{At, Nothing}
+use Rattle.answers.specs.Says.{Says, refuses_with, gives, place_of}
 use Rattle.monotone_walk.specs.declared.Walk.{Walk}
-use Rattle.monotone_walk.specs.Walks.{Moved}
-use Rattle.deletion.specs.Rules.{Removed}
 use Rattle.boundary.specs.declared.Status.{Status}
+use Rattle.answers.specs.declared.SignedTerm.{SignedTerm}
+use Rattle.monotone_walk.specs.declared.Moved.{Moved}
+use Rattle.deletion.specs.declared.Removed.{Removed}
 
 abbrev pub family_of : Bool → Family
 family_of true = Allowed
@@ -87,24 +86,24 @@ bits_of_removed d = d.index.bits
 
 -- ---- walks
 
-abbrev pub current_at : Bool → Index → Current
-current_at true x = At x
-current_at false x = Nothing
+abbrev pub current_at : Bool → Index → Option Index
+current_at true x = Some x
+current_at false x = None
 
 abbrev pub walk_at : Bool → Bool → ℕ → ℕ → ℕ → Walk
 walk_at allowed standing over at remaining = record { current = current_at standing (index_at allowed over at); remaining = remaining }
 
-abbrev pub stands_somewhere : Current → Bool
-stands_somewhere (At x) = true
-stands_somewhere Nothing = false
+abbrev pub stands_somewhere : Option Index → Bool
+stands_somewhere (Some x) = true
+stands_somewhere None = false
 
-abbrev pub alphabet_there : Current → ℕ
-alphabet_there (At x) = x.alphabet
-alphabet_there Nothing = 0
+abbrev pub alphabet_there : Option Index → ℕ
+alphabet_there (Some x) = x.alphabet
+alphabet_there None = 0
 
-abbrev pub bits_there : Current → ℕ
-bits_there (At x) = x.bits
-bits_there Nothing = 0
+abbrev pub bits_there : Option Index → ℕ
+bits_there (Some x) = x.bits
+bits_there None = 0
 
 abbrev pub standing_of : Walk → Bool
 standing_of w = stands_somewhere w.current

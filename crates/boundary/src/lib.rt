@@ -3,18 +3,16 @@
 #![tactic(auto)]
 
 ghost use Rattle.std.specs.Prelude.{◌≡◌};
-ghost use Rattle.answers.specs.Says.{number_of, carried_by, answer_says, indexed_says, signed_says};
-ghost use Rattle.monotone_walk.specs.Walks.{started_says, stepped_says};
-ghost use Rattle.deletion.specs.Rules.{deleted_says};
+ghost use Rattle.answers.specs.Says.{number_of, carried_by, answer_says};
 ghost use Rattle.boundary.specs.Boundary.{family_of, answered, refused_with, status, stored, itself, index_at, minus};
 ghost use Rattle.boundary.specs.Boundary.{alphabet_of_index, bits_of_index, minus_of_term, alphabet_of_term, bits_of_term};
 ghost use Rattle.boundary.specs.Boundary.{minus_of_removed, symbol_of_removed, alphabet_of_removed, bits_of_removed};
 ghost use Rattle.boundary.specs.Boundary.{walk_at, stands_somewhere, alphabet_there, bits_there, standing_of, over_of, at_of, remaining_of};
 ghost use Rattle.boundary.specs.Boundary.{alphabet_given, bits_given, standing_after, over_after, at_after, remaining_after};
 
-use answers::{Answer, Index, Indexed, Refusal, Sign, Signed};
-use deletion::Deleted;
-use monotone_walk::{Current, Started, Stepped, Walk};
+use answers::{Index, Refusal, Sign, SignedTerm};
+use deletion::Removed;
+use monotone_walk::{Moved, Walk};
 use words::Family;
 
 // What comes back from every call: the number of a refusal, 0 for an answer, and the place that the refusal carries, 0 if it carries none.
@@ -74,76 +72,81 @@ pub fn is_minus(s: Sign) -> bool
 }
 
 // A number.
-pub fn number(a: Answer, out: &mut u64) -> Status
+pub fn number(a: Result<u64, Refusal>, out: &mut u64) -> Status
     ensures back { result ≡ status (answer_says a) }
     ensures holds { out.new ≡ stored itself (answer_says a) out.old }
 {
     match a {
-        Answer::Is(n) => {
+        Ok(n) => {
             *out = n;
             answer()
         }
-        Answer::Refused(e) => refused(e),
+        Err(why) => refused(why),
     }
 }
 
 // The alphabet and the bits of an index.
-pub fn indexed(a: Indexed, alphabet: &mut u64, bits: &mut u64) -> Status
-    ensures back { result ≡ status (indexed_says a) }
-    ensures alphabet { alphabet.new ≡ stored alphabet_of_index (indexed_says a) alphabet.old }
-    ensures bits { bits.new ≡ stored bits_of_index (indexed_says a) bits.old }
+pub fn indexed(a: Result<Index, Refusal>, alphabet: &mut u64, bits: &mut u64) -> Status
+    ensures back { result ≡ status (answer_says a) }
+    ensures alphabet { alphabet.new ≡ stored alphabet_of_index (answer_says a) alphabet.old }
+    ensures bits { bits.new ≡ stored bits_of_index (answer_says a) bits.old }
 {
     match a {
-        Indexed::At(x) => {
+        Ok(x) => {
             *alphabet = x.alphabet;
             *bits = x.bits;
             answer()
         }
-        Indexed::Refused(e) => refused(e),
+        Err(e) => refused(e),
     }
 }
 
 // A sign, as whether it is minus, and the alphabet and the bits of an index.
-pub fn signed(a: Signed, sign: &mut bool, alphabet: &mut u64, bits: &mut u64) -> Status
-    ensures back { result ≡ status (signed_says a) }
-    ensures sign { sign.new ≡ stored minus_of_term (signed_says a) sign.old }
-    ensures alphabet { alphabet.new ≡ stored alphabet_of_term (signed_says a) alphabet.old }
-    ensures bits { bits.new ≡ stored bits_of_term (signed_says a) bits.old }
+pub fn signed(
+    a: Result<SignedTerm, Refusal>,
+    sign: &mut bool,
+    alphabet: &mut u64,
+    bits: &mut u64,
+) -> Status
+    ensures back { result ≡ status (answer_says a) }
+    ensures sign { sign.new ≡ stored minus_of_term (answer_says a) sign.old }
+    ensures alphabet { alphabet.new ≡ stored alphabet_of_term (answer_says a) alphabet.old }
+    ensures bits { bits.new ≡ stored bits_of_term (answer_says a) bits.old }
 {
     match a {
-        Signed::At(s, x) => {
-            *sign = is_minus(s);
-            *alphabet = x.alphabet;
-            *bits = x.bits;
+        Ok(term) => {
+            *sign = is_minus(term.sign);
+            *alphabet = term.index.alphabet;
+            *bits = term.index.bits;
             answer()
         }
-        Signed::Refused(e) => refused(e),
+        Err(e) => refused(e),
     }
 }
 
 // A sign, as whether it is minus, the symbol that was deleted, and the alphabet and the bits of what is left.
 pub fn deleted(
-    a: Deleted,
+    a: Result<Removed, Refusal>,
     sign: &mut bool,
     symbol: &mut u64,
     alphabet: &mut u64,
     bits: &mut u64,
 ) -> Status
-    ensures back { result ≡ status (deleted_says a) }
-    ensures sign { sign.new ≡ stored minus_of_removed (deleted_says a) sign.old }
-    ensures symbol { symbol.new ≡ stored symbol_of_removed (deleted_says a) symbol.old }
-    ensures alphabet { alphabet.new ≡ stored alphabet_of_removed (deleted_says a) alphabet.old }
-    ensures bits { bits.new ≡ stored bits_of_removed (deleted_says a) bits.old }
+    ensures back { result ≡ status (answer_says a) }
+    ensures sign { sign.new ≡ stored minus_of_removed (answer_says a) sign.old }
+    ensures symbol { symbol.new ≡ stored symbol_of_removed (answer_says a) symbol.old }
+    ensures alphabet { alphabet.new ≡ stored alphabet_of_removed (answer_says a) alphabet.old }
+    ensures bits { bits.new ≡ stored bits_of_removed (answer_says a) bits.old }
 {
     match a {
-        Deleted::At(s, gone, x) => {
-            *sign = is_minus(s);
-            *symbol = gone;
-            *alphabet = x.alphabet;
-            *bits = x.bits;
+        Ok(gone) => {
+            *sign = is_minus(gone.sign);
+            *symbol = gone.symbol;
+            *alphabet = gone.index.alphabet;
+            *bits = gone.index.bits;
             answer()
         }
-        Deleted::Refused(e) => refused(e),
+        Err(e) => refused(e),
     }
 }
 
@@ -152,59 +155,59 @@ pub fn walk(allowed: bool, standing: bool, over: u64, at: u64, remaining: u64) -
     ensures { result ≡ walk_at allowed standing over at remaining }
 {
     if standing {
-        let current = Current::At(index(allowed, over, at));
+        let current = Some(index(allowed, over, at));
         return Walk { current, remaining };
     }
-    let current = Current::Nothing;
+    let current = None;
     Walk { current, remaining }
 }
 
 // Whether a walk stands at an index.
-fn is_standing(current: Current) -> bool
+fn is_standing(current: Option<Index>) -> bool
     ensures { result ≡ stands_somewhere current }
 {
     match current {
-        Current::At(_) => true,
-        Current::Nothing => false,
+        Some(_) => true,
+        None => false,
     }
 }
 
 // The alphabet of the index that a walk stands at, and 0 if it stands nowhere.
-fn alphabet_there(current: Current) -> u64
+fn alphabet_there(current: Option<Index>) -> u64
     ensures { result ≡ alphabet_there current }
 {
     match current {
-        Current::At(x) => x.alphabet,
-        Current::Nothing => 0,
+        Some(x) => x.alphabet,
+        None => 0,
     }
 }
 
 // The bits of the index that a walk stands at, and 0 if it stands nowhere.
-fn bits_there(current: Current) -> u64
+fn bits_there(current: Option<Index>) -> u64
     ensures { result ≡ bits_there current }
 {
     match current {
-        Current::At(x) => x.bits,
-        Current::Nothing => 0,
+        Some(x) => x.bits,
+        None => 0,
     }
 }
 
 // The four parts of a walk.
 pub fn started(
-    a: Started,
+    a: Result<Walk, Refusal>,
     standing: &mut bool,
     over: &mut u64,
     at: &mut u64,
     remaining: &mut u64,
 ) -> Status
-    ensures back { result ≡ status (started_says a) }
-    ensures standing { standing.new ≡ stored standing_of (started_says a) standing.old }
-    ensures over { over.new ≡ stored over_of (started_says a) over.old }
-    ensures at { at.new ≡ stored at_of (started_says a) at.old }
-    ensures remaining { remaining.new ≡ stored remaining_of (started_says a) remaining.old }
+    ensures back { result ≡ status (answer_says a) }
+    ensures standing { standing.new ≡ stored standing_of (answer_says a) standing.old }
+    ensures over { over.new ≡ stored over_of (answer_says a) over.old }
+    ensures at { at.new ≡ stored at_of (answer_says a) at.old }
+    ensures remaining { remaining.new ≡ stored remaining_of (answer_says a) remaining.old }
 {
     match a {
-        Started::Walk(w) => {
+        Ok(w) => {
             let current = w.current;
             *standing = is_standing(current);
             *over = alphabet_there(current);
@@ -212,13 +215,13 @@ pub fn started(
             *remaining = w.remaining;
             answer()
         }
-        Started::Refused(e) => refused(e),
+        Err(e) => refused(e),
     }
 }
 
 // The alphabet and the bits of the index that a step gives, and the four parts of the walk after it.
 pub fn stepped(
-    a: Stepped,
+    a: Result<Moved, Refusal>,
     standing: &mut bool,
     over: &mut u64,
     at: &mut u64,
@@ -226,25 +229,25 @@ pub fn stepped(
     alphabet: &mut u64,
     bits: &mut u64,
 ) -> Status
-    ensures back { result ≡ status (stepped_says a) }
-    ensures standing { standing.new ≡ stored standing_after (stepped_says a) standing.old }
-    ensures over { over.new ≡ stored over_after (stepped_says a) over.old }
-    ensures at { at.new ≡ stored at_after (stepped_says a) at.old }
-    ensures remaining { remaining.new ≡ stored remaining_after (stepped_says a) remaining.old }
-    ensures alphabet { alphabet.new ≡ stored alphabet_given (stepped_says a) alphabet.old }
-    ensures bits { bits.new ≡ stored bits_given (stepped_says a) bits.old }
+    ensures back { result ≡ status (answer_says a) }
+    ensures standing { standing.new ≡ stored standing_after (answer_says a) standing.old }
+    ensures over { over.new ≡ stored over_after (answer_says a) over.old }
+    ensures at { at.new ≡ stored at_after (answer_says a) at.old }
+    ensures remaining { remaining.new ≡ stored remaining_after (answer_says a) remaining.old }
+    ensures alphabet { alphabet.new ≡ stored alphabet_given (answer_says a) alphabet.old }
+    ensures bits { bits.new ≡ stored bits_given (answer_says a) bits.old }
 {
     match a {
-        Stepped::Step(x, w) => {
-            let current = w.current;
+        Ok(moved) => {
+            let current = moved.state.current;
             *standing = is_standing(current);
             *over = alphabet_there(current);
             *at = bits_there(current);
-            *remaining = w.remaining;
-            *alphabet = x.alphabet;
-            *bits = x.bits;
+            *remaining = moved.state.remaining;
+            *alphabet = moved.index.alphabet;
+            *bits = moved.index.bits;
             answer()
         }
-        Stepped::Refused(e) => refused(e),
+        Err(e) => refused(e),
     }
 }

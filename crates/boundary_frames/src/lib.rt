@@ -4,11 +4,11 @@
 ghost use Rattle.std.specs.Prelude.{◌≡◌, [], ◌∷◌, ◌++◌};
 ghost use Rattle.answers.specs.Says.{number_of, carried_by};
 ghost use Rattle.boundary.specs.Boundary.{stored};
-ghost use Rattle.mass.specs.Mass.{joined_says, massed_says};
+ghost use Rattle.mass.specs.Mass.{framed_says};
 ghost use Rattle.boundary_frames.specs.Frames.{frame_answered, frame_refused, frame_status, frame_of, pressure_of, temperature_of, the_mass};
 
 use answers::Refusal;
-use mass::{Joined, Massed};
+use mass::{FrameRefusal, Sample};
 
 // What comes back from a call on a frame: the number of a refusal, 0 for an answer, the place that it carries, 0 if it carries none, and the frame that it names, 0 for
 // an answer.
@@ -41,33 +41,38 @@ pub fn refused(e: Refusal, frame: u64) -> FrameStatus
 }
 
 // The frame of a sample and its readings.
-pub fn joined(a: Joined, frame: &mut u64, pressure: &mut f64, temperature: &mut f64) -> FrameStatus
-    ensures back { result ≡ frame_status (joined_says a) }
-    ensures frame { frame.new ≡ stored frame_of (joined_says a) frame.old }
-    ensures pressure { pressure.new ≡ stored pressure_of (joined_says a) pressure.old }
-    ensures temperature { temperature.new ≡ stored temperature_of (joined_says a) temperature.old }
+pub fn joined(
+    a: Result<Sample, FrameRefusal>,
+    frame: &mut u64,
+    pressure: &mut f64,
+    temperature: &mut f64,
+) -> FrameStatus
+    ensures back { result ≡ frame_status (framed_says a) }
+    ensures frame { frame.new ≡ stored frame_of (framed_says a) frame.old }
+    ensures pressure { pressure.new ≡ stored pressure_of (framed_says a) pressure.old }
+    ensures temperature { temperature.new ≡ stored temperature_of (framed_says a) temperature.old }
 {
     match a {
-        Joined::One(s) => {
+        Ok(s) => {
             *frame = s.frame;
             *pressure = s.pressure;
             *temperature = s.temperature;
             answer()
         }
-        Joined::Refused(e, f) => refused(e, f),
+        Err(e) => refused(e.refusal, e.frame),
     }
 }
 
 // A mass.
-pub fn massed(a: Massed, mass: &mut f64) -> FrameStatus
-    ensures back { result ≡ frame_status (massed_says a) }
-    ensures holds { mass.new ≡ stored the_mass (massed_says a) mass.old }
+pub fn massed(a: Result<f64, FrameRefusal>, mass: &mut f64) -> FrameStatus
+    ensures back { result ≡ frame_status (framed_says a) }
+    ensures holds { mass.new ≡ stored the_mass (framed_says a) mass.old }
 {
     match a {
-        Massed::Is(m) => {
+        Ok(m) => {
             *mass = m;
             answer()
         }
-        Massed::Refused(e, f) => refused(e, f),
+        Err(e) => refused(e.refusal, e.frame),
     }
 }

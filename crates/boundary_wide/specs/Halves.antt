@@ -6,7 +6,8 @@
 use Rattle.std.specs.Prelude.{Bool, ℕ}
 use Rattle.boundary.specs.Boundary.{family_of, minus}
 use Rattle.wide.specs.declared.Wide.{Wide}
-use Rattle.wide.specs.Answers.{WideTerm, WideGap}
+use Rattle.wide.specs.declared.WideTerm.{WideTerm}
+use Rattle.wide.specs.declared.WideGap.{WideGap}
 
 abbrev pub wide_at : Bool → ℕ → ℕ → Wide
 wide_at allowed low high = record { family = family_of allowed; low = low; high = high }

@@ -3,13 +3,14 @@
 #![tactic(auto)]
 
 ghost use Rattle.std.specs.Prelude.{◌≡◌};
+ghost use Rattle.answers.specs.Says.{answer_says};
 ghost use Rattle.boundary.specs.Boundary.{status, stored};
-ghost use Rattle.wide.specs.Answers.{wide_indexed_says, wide_signed_says, wide_deleted_says};
 ghost use Rattle.boundary_wide.specs.Halves.{wide_at, low_of, high_of, minus_of_term, low_of_term, high_of_term};
 ghost use Rattle.boundary_wide.specs.Halves.{minus_of_gap, symbol_of_gap, low_of_gap, high_of_gap};
 
+use answers::Refusal;
 use boundary::Status;
-use wide::{Wide, WideDeleted, WideIndexed, WideSigned};
+use wide::{Wide, WideGap, WideTerm};
 
 // A wide index from its three parts.
 pub fn index(allowed: bool, low: u64, high: u64) -> Wide
@@ -20,61 +21,66 @@ pub fn index(allowed: bool, low: u64, high: u64) -> Wide
 }
 
 // The halves of a wide index.
-pub fn indexed(a: WideIndexed, low: &mut u64, high: &mut u64) -> Status
-    ensures back { result ≡ status (wide_indexed_says a) }
-    ensures low { low.new ≡ stored low_of (wide_indexed_says a) low.old }
-    ensures high { high.new ≡ stored high_of (wide_indexed_says a) high.old }
+pub fn indexed(a: Result<Wide, Refusal>, low: &mut u64, high: &mut u64) -> Status
+    ensures back { result ≡ status (answer_says a) }
+    ensures low { low.new ≡ stored low_of (answer_says a) low.old }
+    ensures high { high.new ≡ stored high_of (answer_says a) high.old }
 {
     match a {
-        WideIndexed::At(x) => {
+        Ok(x) => {
             *low = x.low;
             *high = x.high;
             boundary::answer()
         }
-        WideIndexed::Refused(e) => boundary::refused(e),
+        Err(why) => boundary::refused(why),
     }
 }
 
 // A sign, as whether it is minus, and the halves of a wide index.
-pub fn signed(a: WideSigned, sign: &mut bool, low: &mut u64, high: &mut u64) -> Status
-    ensures back { result ≡ status (wide_signed_says a) }
-    ensures sign { sign.new ≡ stored minus_of_term (wide_signed_says a) sign.old }
-    ensures low { low.new ≡ stored low_of_term (wide_signed_says a) low.old }
-    ensures high { high.new ≡ stored high_of_term (wide_signed_says a) high.old }
+pub fn signed(
+    a: Result<WideTerm, Refusal>,
+    sign: &mut bool,
+    low: &mut u64,
+    high: &mut u64,
+) -> Status
+    ensures back { result ≡ status (answer_says a) }
+    ensures sign { sign.new ≡ stored minus_of_term (answer_says a) sign.old }
+    ensures low { low.new ≡ stored low_of_term (answer_says a) low.old }
+    ensures high { high.new ≡ stored high_of_term (answer_says a) high.old }
 {
     match a {
-        WideSigned::At(s, x) => {
-            *sign = boundary::is_minus(s);
-            *low = x.low;
-            *high = x.high;
+        Ok(term) => {
+            *sign = boundary::is_minus(term.sign);
+            *low = term.index.low;
+            *high = term.index.high;
             boundary::answer()
         }
-        WideSigned::Refused(e) => boundary::refused(e),
+        Err(e) => boundary::refused(e),
     }
 }
 
 // A sign, as whether it is minus, the symbol that was deleted, and the halves of what is left.
 pub fn deleted(
-    a: WideDeleted,
+    a: Result<WideGap, Refusal>,
     sign: &mut bool,
     symbol: &mut u64,
     low: &mut u64,
     high: &mut u64,
 ) -> Status
-    ensures back { result ≡ status (wide_deleted_says a) }
-    ensures sign { sign.new ≡ stored minus_of_gap (wide_deleted_says a) sign.old }
-    ensures symbol { symbol.new ≡ stored symbol_of_gap (wide_deleted_says a) symbol.old }
-    ensures low { low.new ≡ stored low_of_gap (wide_deleted_says a) low.old }
-    ensures high { high.new ≡ stored high_of_gap (wide_deleted_says a) high.old }
+    ensures back { result ≡ status (answer_says a) }
+    ensures sign { sign.new ≡ stored minus_of_gap (answer_says a) sign.old }
+    ensures symbol { symbol.new ≡ stored symbol_of_gap (answer_says a) symbol.old }
+    ensures low { low.new ≡ stored low_of_gap (answer_says a) low.old }
+    ensures high { high.new ≡ stored high_of_gap (answer_says a) high.old }
 {
     match a {
-        WideDeleted::At(s, gone, x) => {
-            *sign = boundary::is_minus(s);
-            *symbol = gone;
-            *low = x.low;
-            *high = x.high;
+        Ok(gone) => {
+            *sign = boundary::is_minus(gone.sign);
+            *symbol = gone.symbol;
+            *low = gone.index.low;
+            *high = gone.index.high;
             boundary::answer()
         }
-        WideDeleted::Refused(e) => boundary::refused(e),
+        Err(e) => boundary::refused(e),
     }
 }

@@ -4,7 +4,7 @@
 --   symbol_of_taken t, rank_of_taken t    the parts of a deletion: the symbol, and the rank of the word that is left
 use Rattle.std.specs.Prelude.{ℕ}
 use Rattle.digits.specs.declared.DigitWord.{DigitWord}
-use Rattle.digits.specs.Rules.{TakenOut}
+use Rattle.digits.specs.declared.TakenOut.{TakenOut}
 
 abbrev pub word_at : ℕ → ℕ → ℕ → DigitWord
 word_at radix degree rank = record { radix = radix; degree = degree; rank = rank }

@@ -5,21 +5,21 @@ ghost use Rattle.boundary.specs.Boundary.{family_of, status, stored, itself};
 ghost use Rattle.rank_all.specs.Rules.{rank_all_says, ranked_says};
 
 use boundary::Status;
-use rank_all::Ranked;
+use rank_all::PlacedRefusal;
 
 // How many ranks are written.
-fn ranked(a: Ranked, written: &mut u64) -> Status
+fn ranked(a: Result<u64, PlacedRefusal>, written: &mut u64) -> Status
     ensures back { result ≡ status (ranked_says a) }
     ensures holds { written.new ≡ stored itself (ranked_says a) written.old }
 {
     match a {
-        Ranked::All(k) => {
+        Ok(k) => {
             *written = k;
             boundary::answer()
         }
-        Ranked::Refused(e, i) => {
-            let number = answers::number(e);
-            Status { number, at: i }
+        Err(e) => {
+            let number = answers::number(e.refusal);
+            Status { number, at: e.at }
         }
     }
 }

@@ -1,44 +1,45 @@
 // Digit words, for programs in C (docs/RULES.md, section 10). A digit word crosses as three numbers: its radix, its degree and its rank. "The word's checks" are 1 if the
 // degree is above 64; 9 if radix^degree is 2^64 or more; 3 if the rank is not below it.
 ghost use Rattle.std.specs.Prelude.{◌≡◌, length};
-ghost use Rattle.answers.specs.Says.{after, places_of};
-ghost use Rattle.digits.specs.Rules.{digit_count_says, symbols_says, digit_symbol_says, from_symbols_says, worded_says, digit_deleted_says};
+ghost use Rattle.answers.specs.Says.{after, places_of, answer_says};
+ghost use Rattle.digits.specs.Rules.{digit_count_says, symbols_says, digit_symbol_says, from_symbols_says};
 ghost use Rattle.digits_algebra.specs.Rules.{multiplicity_says, digit_stabilizer_says, concat_says, digit_delete_says};
 ghost use Rattle.boundary.specs.Boundary.{status, stored, itself};
 ghost use Rattle.capi.specs.DigitWords.{word_at, degree_of_word, rank_of_word, symbol_of_taken, rank_of_taken};
 
+use answers::Refusal;
 use boundary::Status;
-use digits::{Deleted, DigitWord, Worded};
+use digits::{DigitWord, TakenOut};
 
 // A digit word that is an answer, as its degree and its rank.
-fn worded(a: Worded, degree: &mut u64, rank: &mut u64) -> Status
-    ensures back { result ≡ status (worded_says a) }
-    ensures degree { degree.new ≡ stored degree_of_word (worded_says a) degree.old }
-    ensures rank { rank.new ≡ stored rank_of_word (worded_says a) rank.old }
+fn worded(a: Result<DigitWord, Refusal>, degree: &mut u64, rank: &mut u64) -> Status
+    ensures back { result ≡ status (answer_says a) }
+    ensures degree { degree.new ≡ stored degree_of_word (answer_says a) degree.old }
+    ensures rank { rank.new ≡ stored rank_of_word (answer_says a) rank.old }
 {
     match a {
-        Worded::Is(x) => {
+        Ok(x) => {
             *degree = x.degree;
             *rank = x.rank;
             boundary::answer()
         }
-        Worded::Refused(e) => boundary::refused(e),
+        Err(e) => boundary::refused(e),
     }
 }
 
 // A symbol and a digit word that are an answer, as the symbol and the word's rank.
-fn deleted(a: Deleted, symbol: &mut u64, rest: &mut u64) -> Status
-    ensures back { result ≡ status (digit_deleted_says a) }
-    ensures symbol { symbol.new ≡ stored symbol_of_taken (digit_deleted_says a) symbol.old }
-    ensures rest { rest.new ≡ stored rank_of_taken (digit_deleted_says a) rest.old }
+fn deleted(a: Result<TakenOut, Refusal>, symbol: &mut u64, rest: &mut u64) -> Status
+    ensures back { result ≡ status (answer_says a) }
+    ensures symbol { symbol.new ≡ stored symbol_of_taken (answer_says a) symbol.old }
+    ensures rest { rest.new ≡ stored rank_of_taken (answer_says a) rest.old }
 {
     match a {
-        Deleted::At(s, x) => {
-            *symbol = s;
-            *rest = x.rank;
+        Ok(out) => {
+            *symbol = out.symbol;
+            *rest = out.left.rank;
             boundary::answer()
         }
-        Deleted::Refused(e) => boundary::refused(e),
+        Err(e) => boundary::refused(e),
     }
 }
 

@@ -3,9 +3,9 @@
 // index is taken first, as with terms. The check of an image in pieces keeps its state in four variables of the caller's: the first 772 bytes, how many bytes
 // have been seen, the verdict (0 open, 1 good, 2 bad) and its number (how many tables there are, or the offset of 11; 0 while it is open).
 ghost use Rattle.std.specs.Prelude.{◌≡◌, length};
-ghost use Rattle.answers.specs.Says.{after, places_of};
+ghost use Rattle.answers.specs.Says.{after, places_of, answer_says};
 ghost use Rattle.image_rules.specs.Image.{image_says};
-ghost use Rattle.image_reading.specs.Reading.{row_says, found_says};
+ghost use Rattle.image_reading.specs.Reading.{row_says};
 ghost use Rattle.image_lookup.specs.Lookup.{lookup_says, lookup_at_says};
 ghost use Rattle.image_writing.specs.Writing.{write_says};
 ghost use Rattle.pieces.specs.Pieces.{start as start_of, fed, closed};
@@ -15,7 +15,7 @@ ghost use Rattle.capi.specs.Images.{alphabet_of_table, offset_of_table, entries_
 
 use answers::Refusal;
 use boundary::Status;
-use image_reading::{Found, Table};
+use image_reading::Table;
 use pieces::Verdict;
 
 // How many tables an image has: 11.
@@ -28,20 +28,25 @@ pub extern "C" fn gudrenoss_image_check(image: &[u8], tables: &mut u64) -> Statu
 }
 
 // A table, as its alphabet, the offset of its body and how many entries that has.
-fn table(a: Found, alphabet: &mut u64, offset: &mut u64, entries: &mut u64) -> Status
-    ensures back { result ≡ status (found_says a) }
-    ensures alphabet { alphabet.new ≡ stored alphabet_of_table (found_says a) alphabet.old }
-    ensures offset { offset.new ≡ stored offset_of_table (found_says a) offset.old }
-    ensures entries { entries.new ≡ stored entries_of_table (found_says a) entries.old }
+fn table(
+    a: Result<Table, Refusal>,
+    alphabet: &mut u64,
+    offset: &mut u64,
+    entries: &mut u64,
+) -> Status
+    ensures back { result ≡ status (answer_says a) }
+    ensures alphabet { alphabet.new ≡ stored alphabet_of_table (answer_says a) alphabet.old }
+    ensures offset { offset.new ≡ stored offset_of_table (answer_says a) offset.old }
+    ensures entries { entries.new ≡ stored entries_of_table (answer_says a) entries.old }
 {
     match a {
-        Found::At(t) => {
+        Ok(t) => {
             *alphabet = t.alphabet;
             *offset = t.offset;
             *entries = t.entries;
             boundary::answer()
         }
-        Found::Refused(e) => boundary::refused(e),
+        Err(e) => boundary::refused(e),
     }
 }
 

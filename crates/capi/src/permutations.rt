@@ -1,15 +1,16 @@
 // Permutations, for programs in C (docs/RULES.md, section 8). A permutation is lent as its 64 entries, in an array of 64 places, and its length; it is good if its
 // entries up to the length are a bijection of 0 .. length - 1. A result is written to such places, all 64 of them, and its length beside them; the places past it are 0.
 ghost use Rattle.std.specs.Prelude.{◌≡◌};
-ghost use Rattle.permutation.specs.Record.{arranged_says, signature_says};
+ghost use Rattle.answers.specs.Says.{answer_says};
 ghost use Rattle.permutation.specs.Rules.{image_says};
 ghost use Rattle.permutation_group.specs.Rules.{inverse_says, compose_says, sign_says};
 ghost use Rattle.permutation_order.specs.Rules.{arrangement_rank_says, arrangement_unrank_says, arrangement_successor_says};
 ghost use Rattle.boundary.specs.Boundary.{status, stored, itself, minus as is_minus};
 ghost use Rattle.capi.specs.Permutations.{lent_as, entries_of, length_of};
 
+use answers::{Refusal, Sign};
 use boundary::Status;
-use permutation::{Arranged, CAPACITY, Permutation, Signature, Verdict};
+use permutation::{CAPACITY, Permutation};
 
 // The record of a permutation that is lent.
 fn lent(entries: &[u64; CAPACITY], len: u64) -> Permutation
@@ -22,35 +23,33 @@ fn lent(entries: &[u64; CAPACITY], len: u64) -> Permutation
 }
 
 // The entries and the length of a permutation that is an answer.
-fn arranged(a: Arranged, entries: &mut [u64; CAPACITY], len: &mut u64) -> Status
-    ensures back { result ≡ status (arranged_says a) }
-    ensures holds { entries.new ≡ stored (λ w. a.value.entries) (arranged_says a) entries.old }
-    ensures long { len.new ≡ stored (λ w. a.value.len) (arranged_says a) len.old }
+fn arranged(a: Result<Permutation, Refusal>, entries: &mut [u64; CAPACITY], len: &mut u64) -> Status
+    ensures back { result ≡ status (answer_says a) }
+    ensures holds { entries.new ≡ stored (λ p. p.entries) (answer_says a) entries.old }
+    ensures long { len.new ≡ stored (λ p. p.len) (answer_says a) len.old }
 {
-    let verdict = a.verdict;
-    match verdict {
-        Verdict::Given => {
-            let value = a.value;
-            let given = value.entries;
+    match a {
+        Ok(p) => {
+            let given = p.entries;
             *entries = given;
-            *len = value.len;
+            *len = p.len;
             boundary::answer()
         }
-        Verdict::Refused(e) => boundary::refused(e),
+        Err(e) => boundary::refused(e),
     }
 }
 
 // A sign that is an answer, as whether it is minus.
-fn signed(a: Signature, out: &mut bool) -> Status
-    ensures back { result ≡ status (signature_says a) }
-    ensures holds { out.new ≡ stored is_minus (signature_says a) out.old }
+fn signed(a: Result<Sign, Refusal>, out: &mut bool) -> Status
+    ensures back { result ≡ status (answer_says a) }
+    ensures holds { out.new ≡ stored is_minus (answer_says a) out.old }
 {
     match a {
-        Signature::Is(s) => {
+        Ok(s) => {
             *out = boundary::is_minus(s);
             boundary::answer()
         }
-        Signature::Refused(e) => boundary::refused(e),
+        Err(e) => boundary::refused(e),
     }
 }
 

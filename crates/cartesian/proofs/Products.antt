@@ -48,8 +48,8 @@ passing_turn rs i p h n =
     let some : 0 < get_or rs i 0 = omega (arith, n) in
     omega (arith, ap (stride rs) (add-one i), stride_next rs i h, le-mul_of_pos_right (stride rs i) some)
 
-pub passing_stops : (rs : List ℕ) (i : ℕ) → i < length rs → get_or rs i 0 ≡ 0 → gives (get_or rs i 0) ≡ number_says (product rs)
-passing_stops rs i h e = ap gives e ∙ sym (ap number_says (zero_radix rs i h e) ∙ fits_small 0 (omega arith))
+pub passing_stops : (rs : List ℕ) (i : ℕ) → i < length rs → get_or rs i 0 ≡ 0 → gives 0 ≡ number_says (product rs)
+passing_stops rs i h e = sym (ap number_says (zero_radix rs i h e) ∙ fits_small 0 (omega arith))
 
 pub passing_ends : (rs : List ℕ) (j i : ℕ) → 0 < stride rs i → i ≡ j → 2 ^ 64 ≤ product (drop j rs) → refuses 9 ≡ number_says (product rs)
 passing_ends rs j i p e h =

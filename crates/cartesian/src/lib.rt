@@ -8,7 +8,7 @@ ghost use Rattle.answers.specs.Says.{answer_says, places_of, after};
 ghost use Rattle.cartesian.specs.Checks.{number_says, within as within_of};
 ghost use Rattle.cartesian.specs.Rules.{shape_count_says, linearize_says, delinearize_says};
 
-use answers::{Answer, Refusal};
+use answers::Refusal;
 
 // Whether a times b is 2^64 or more. The product is not formed.
 pub fn exceeds(a: u64, b: u64) -> bool
@@ -21,44 +21,39 @@ pub fn exceeds(a: u64, b: u64) -> bool
 }
 
 // The product of the radices, where that of those from an axis up is 2^64 or more: 0 if a radix below is 0, and otherwise 9.
-fn past(radices: &[u64], from: usize) -> Answer
+fn past(radices: &[u64], from: usize) -> Result<u64, Refusal>
     requires { (from ≤ length radices.now) × (2 ^ 64 ≤ product_of (drop from radices.now)) }
     ensures { answer_says result ≡ number_says (product_of radices.now) }
 {
-    let mut i = 0;
-    while i < from {
-        let r = radices[i];
-        if r == 0 {
-            return Answer::Is(r);
+    for r in &radices[..from] {
+        if *r == 0 {
+            return Ok(0);
         }
-        i += 1;
     }
-    Answer::Refused(Refusal::TooBig)
+    Err(Refusal::TooBig)
 }
 
 // The product of the radices, from the last down: 9 if it is 2^64 or more.
-fn size(radices: &[u64]) -> Answer
+fn size(radices: &[u64]) -> Result<u64, Refusal>
     ensures { answer_says result ≡ number_says (product_of radices.now) }
 {
     let mut product: u64 = 1;
-    let mut i = radices.len();
-    while 0 < i {
-        i -= 1;
+    for i in (0..radices.len()).rev() {
         let r = radices[i];
         if exceeds(product, r) {
             return past(radices, i);
         }
         product *= r;
     }
-    Answer::Is(product)
+    Ok(product)
 }
 
 // How many digit tuples a shape has: 1 if it has more than 16 axes; 9.
-pub fn shape_count(radices: &[u64]) -> Answer
+pub fn shape_count(radices: &[u64]) -> Result<u64, Refusal>
     ensures { answer_says result ≡ shape_count_says radices.now }
 {
     if 16 < radices.len() {
-        return Answer::Refused(Refusal::TooWide);
+        return Err(Refusal::TooWide);
     }
     size(radices)
 }
@@ -68,12 +63,10 @@ fn within(radices: &[u64], digits: &[u64]) -> bool
     requires { length digits.now ≡ length radices.now }
     ensures { result ≡ within_of radices.now digits.now }
 {
-    let mut i = 0;
-    while i < radices.len() {
-        if radices[i] <= digits[i] {
+    for (i, r) in radices.iter().enumerate() {
+        if *r <= digits[i] {
             return false;
         }
-        i += 1;
     }
     true
 }
@@ -84,32 +77,27 @@ fn number(radices: &[u64], digits: &[u64]) -> u64
     ensures { result ≡ positional_value radices.now digits.now }
 {
     let mut above: u64 = 0;
-    let mut i = radices.len();
-    while 0 < i {
-        i -= 1;
+    for i in (0..radices.len()).rev() {
         above = above * radices[i] + digits[i];
     }
     above
 }
 
 // The number of a digit tuple: 1; 8 if there are not as many digits as radices; 7 if a digit is not below its radix; 9.
-pub fn linearize(radices: &[u64], digits: &[u64]) -> Answer
+pub fn linearize(radices: &[u64], digits: &[u64]) -> Result<u64, Refusal>
     ensures { answer_says result ≡ linearize_says radices.now digits.now }
 {
     if 16 < radices.len() {
-        return Answer::Refused(Refusal::TooWide);
+        return Err(Refusal::TooWide);
     }
     if digits.len() != radices.len() {
-        return Answer::Refused(Refusal::Shape);
+        return Err(Refusal::Shape);
     }
     if !within(radices, digits) {
-        return Answer::Refused(Refusal::Outside);
+        return Err(Refusal::Outside);
     }
-    let a = size(radices);
-    let Answer::Is(_) = a else {
-        return a;
-    };
-    Answer::Is(number(radices, digits))
+    size(radices)?;
+    Ok(number(radices, digits))
 }
 
 // Writes the digits of x, the lowest first.
@@ -118,29 +106,24 @@ fn write_digits(radices: &[u64], x: u64, out: &mut [u64])
     ensures { out.new ≡ digits_of radices.now x ++ drop (length (digits_of radices.now x)) out.old }
 {
     let mut left = x;
-    let mut i = 0;
-    while i < radices.len() {
-        out[i] = left % radices[i];
-        left /= radices[i];
-        i += 1;
+    for (i, r) in radices.iter().enumerate() {
+        out[i] = left % *r;
+        left /= *r;
     }
 }
 
 // The digit tuple of a number, written into a lent output: 1, 9; 3 if the number is not below the count; 8. The answer is how many places are written.
-pub fn delinearize(radices: &[u64], x: u64, out: &mut [u64]) -> Answer
+pub fn delinearize(radices: &[u64], x: u64, out: &mut [u64]) -> Result<u64, Refusal>
     ensures says { answer_says result ≡ places_of (delinearize_says radices.now x (length out.old)) }
     ensures holds { out.new ≡ after (delinearize_says radices.now x (length out.old)) out.old }
 {
-    let a = shape_count(radices);
-    let Answer::Is(count) = a else {
-        return a;
-    };
+    let count = shape_count(radices)?;
     if count <= x {
-        return Answer::Refused(Refusal::NoSuchRank);
+        return Err(Refusal::NoSuchRank);
     }
     if out.len() < radices.len() {
-        return Answer::Refused(Refusal::Shape);
+        return Err(Refusal::Shape);
     }
     write_digits(radices, x, out);
-    Answer::Is(radices.len() as u64)
+    Ok(radices.len() as u64)
 }

@@ -9,7 +9,7 @@ ghost use Rattle.cartesian.specs.Checks.{number_says};
 ghost use Rattle.cartesian_strides.specs.Partial.{too_big};
 ghost use Rattle.cartesian_strides.specs.Rules.{strides_says, corner_says};
 
-use answers::{Answer, Refusal};
+use answers::Refusal;
 
 // Whether the product of the first j radices is 2^64 or more for some j up to the given one.
 fn too_big(radices: &[u64], upto: usize) -> bool
@@ -17,14 +17,11 @@ fn too_big(radices: &[u64], upto: usize) -> bool
     ensures { result ≡ too_big radices.now upto }
 {
     let mut stride: u64 = 1;
-    let mut i = 0;
-    while i < upto {
-        let r = radices[i];
-        if cartesian::exceeds(stride, r) {
+    for r in &radices[..upto] {
+        if cartesian::exceeds(stride, *r) {
             return true;
         }
-        stride *= r;
-        i += 1;
+        stride *= *r;
     }
     false
 }
@@ -35,13 +32,11 @@ fn write_strides(radices: &[u64], out: &mut [u64])
     ensures { out.new ≡ strides_of radices.now ++ drop (length (strides_of radices.now)) out.old }
 {
     let mut stride: u64 = 1;
-    let mut i = 0;
-    while i < radices.len() {
+    for (i, r) in radices.iter().enumerate() {
         out[i] = stride;
         if i + 1 < radices.len() {
-            stride *= radices[i];
+            stride *= *r;
         }
-        i += 1;
     }
 }
 
@@ -53,77 +48,69 @@ fn one_less(n: usize) -> usize
 }
 
 // The strides of a shape, written into a lent output: 1; 9 by the products up to one less than all radices; 8. The answer is how many places are written.
-pub fn strides(radices: &[u64], out: &mut [u64]) -> Answer
+pub fn strides(radices: &[u64], out: &mut [u64]) -> Result<u64, Refusal>
     ensures says { answer_says result ≡ places_of (strides_says radices.now (length out.old)) }
     ensures holds { out.new ≡ after (strides_says radices.now (length out.old)) out.old }
 {
     let n = radices.len();
     if 16 < n {
-        return Answer::Refused(Refusal::TooWide);
+        return Err(Refusal::TooWide);
     }
     if too_big(radices, one_less(n)) {
-        return Answer::Refused(Refusal::TooBig);
+        return Err(Refusal::TooBig);
     }
     if out.len() < n {
-        return Answer::Refused(Refusal::Shape);
+        return Err(Refusal::Shape);
     }
     write_strides(radices, out);
-    Answer::Is(n as u64)
+    Ok(n as u64)
 }
 
 // The sum of two numbers, each of which may be 2^64 or more: refusal 9 stands for that.
-fn plus(a: Answer, b: Answer) -> Answer
+fn plus(a: Result<u64, Refusal>, b: Result<u64, Refusal>) -> Result<u64, Refusal>
     ensures { (m n : ℕ) → answer_says a ≡ number_says m → answer_says b ≡ number_says n → answer_says result ≡ number_says (m + n) }
 {
-    let Answer::Is(x) = a else {
-        return a;
-    };
-    let Answer::Is(y) = b else {
-        return b;
-    };
+    let x = a?;
+    let y = b?;
     if u64::MAX - x < y {
-        return Answer::Refused(Refusal::TooBig);
+        return Err(Refusal::TooBig);
     }
-    Answer::Is(x + y)
+    Ok(x + y)
 }
 
 // Such a number times a radix: 0 times it is 0.
-fn times(a: Answer, r: u64) -> Answer
+fn times(a: Result<u64, Refusal>, r: u64) -> Result<u64, Refusal>
     ensures { (n : ℕ) → answer_says a ≡ number_says n → answer_says result ≡ number_says (n * r) }
 {
     if r == 0 {
-        return Answer::Is(0);
+        return Ok(0);
     }
-    let Answer::Is(x) = a else {
-        return a;
-    };
+    let x = a?;
     if cartesian::exceeds(x, r) {
-        return Answer::Refused(Refusal::TooBig);
+        return Err(Refusal::TooBig);
     }
-    Answer::Is(x * r)
+    Ok(x * r)
 }
 
 // The offset of a corner, the sum of the strides of the chosen axes: 1; 7 if an axis is not below the number of axes; 9 if the exact sum is 2^64 or more.
-pub fn corner(radices: &[u64], axes: u64) -> Answer
+pub fn corner(radices: &[u64], axes: u64) -> Result<u64, Refusal>
     ensures { answer_says result ≡ corner_says radices.now axes }
 {
     if 16 < radices.len() {
-        return Answer::Refused(Refusal::TooWide);
+        return Err(Refusal::TooWide);
     }
     if bits::reaches(axes, radices.len() as u64) {
-        return Answer::Refused(Refusal::Outside);
+        return Err(Refusal::Outside);
     }
-    let mut sum = Answer::Is(0);
-    let mut stride = Answer::Is(1);
+    let mut sum = Ok(0);
+    let mut stride = Ok(1);
     let mut left = axes;
-    let mut i = 0;
-    while i < radices.len() {
+    for r in radices {
         if left % 2 == 1 {
             sum = plus(sum, stride);
         }
-        stride = times(stride, radices[i]);
+        stride = times(stride, *r);
         left /= 2;
-        i += 1;
     }
     sum
 }

@@ -4,7 +4,7 @@
 --   put-long, put-here, put-elsewhere    it is as long, has e at that place, and elsewhere what it had
 --   entries_none, entries_some    the test of a length
 --   all_written    a word as long as the output is all of it
-use Rattle.std.proofs.Common.{◌≡◌, ℕ, suc, ◌+◌, ◌-◌, ◌*◌, ◌/◌, ◌%◌, ◌<◌, ◌≤◌, Bool, true, false, eqb, ◌⊎◌, List, [], ◌++◌, length, get_or, take, drop, set, sym, refl, ap, ◌∙◌, subst, ap₂, inl, inr, append_assoc, add-one, arith, length-append, length-drop, take-append-drop, length-take-le, get_or-drop, take_all, drop-drop, take_at, drop_at, eq-eqb, ne_eqb}
+use Rattle.std.proofs.Common.{◌≡◌, ℕ, ◌+◌, ◌-◌, ◌*◌, ◌/◌, ◌%◌, ◌<◌, ◌≤◌, false, eqb, List, [], ◌++◌, length, get_or, take, drop, set, sym, ap, ◌∙◌, ap₂, append_assoc, add-one, arith, length-append, length-drop, take-append-drop, length-take-le, get_or-drop, drop-drop, take_at, drop_at, eq-eqb, ne_eqb}
 use native.Mathlib.Decide.{ℕ_discrete, dec_lt}
 use lib.Seq.{paste, paste-zero, paste-suc, take-append-le, drop-append-le, drop-append-add, drop-length}
 use Rattle.lexicographic.specs.Entries.{entry_at}

@@ -8,7 +8,7 @@
 --   later_within    how many sets stand later is below the count
 --   exact, converted_long    where the checks pass both buffers have the count of entries, and so has the converted body
 --   count-refused, given_refused, lent-refused, convert_gives    what the converter says, check by check
-use Rattle.std.proofs.Common.{◌≡◌, ℕ, zero, suc, ◌+◌, ◌-◌, ◌*◌, ◌%◌, ◌^◌, ◌<◌, ◌≤◌, Bool, true, false, not, eqb, ◌⊎◌, List, length, sym, refl, ap, ◌∙◌, subst, ap₂, inl, inr, eq-or-lt_of_le, arith, take_all, pow_mono, lt-ltb, eqb-true}
+use Rattle.std.proofs.Common.{◌≡◌, ℕ, zero, suc, ◌+◌, ◌-◌, ◌*◌, ◌%◌, ◌^◌, ◌<◌, ◌≤◌, Bool, true, false, not, eqb, ◌⊎◌, List, length, sym, ap, ◌∙◌, subst, ap₂, inl, inr, eq-or-lt_of_le, arith, take_all, pow_mono, lt-ltb, eqb-true}
 use Rattle.pascal.specs.Choose.{choose}
 use Rattle.words.specs.declared.Family.{Family}
 use Rattle.words.specs.declared.Family.TheVariants.{Forbidden}
@@ -186,7 +186,6 @@ walks-past a k c q bits m h = record { set = λ p. absurd (omega arith); many = 
 -- ---- both together
 
 pub record Converting (back : Bool) (a k c : ℕ) (from out : List ℕ) (bits later q : ℕ) : Type 0 where
-  pub within : q ≤ c
   pub written : Written back a k c from out q
   pub walks : Walks a k c q bits later
 

@@ -7,7 +7,7 @@ ghost use Rattle.answers.specs.Says.{answer_says, places_of, after};
 ghost use Rattle.lexicographic.specs.Entries.{entry_at};
 ghost use Rattle.conversion.specs.Rules.{place_in, converted, convert_says, Exact};
 
-use answers::{Answer, Refusal};
+use answers::Refusal;
 use words::Family;
 
 // Whether a buffer of so many bytes has exactly c entries. The product is not formed.
@@ -66,16 +66,14 @@ fn write(back: bool, family: Family, n: u64, k: u64, c: u64, from: &[u8], out: &
     let a = taking::shifted_alphabet(family, n, k);
     let mut bits = bits::low_mask(k);
     let mut later = std::num::wrapping_sub_u64(c, 1);
-    let mut q: u64 = 0;
-    while q < c {
+    for q in 0..c {
         copy_entry(
             from,
             place_in(back, c, q, later),
             out,
             place_in(!back, c, q, later),
         );
-        q += 1;
-        if q < c {
+        if q + 1 < c {
             later = following::next_later(a, k, c, bits, later);
             bits = successor::successor(bits);
         }
@@ -84,23 +82,24 @@ fn write(back: bool, family: Family, n: u64, k: u64, c: u64, from: &[u8], out: &
 
 // A body in the other order, written into a lent output: from the old order to the new one, or back. 1 as the count; 8 unless both buffers have exactly the count
 // of entries. The answer is how many bytes are written.
-pub fn convert(back: bool, family: Family, n: u64, k: u64, from: &[u8], out: &mut [u8]) -> Answer
+pub fn convert(
+    back: bool,
+    family: Family,
+    n: u64,
+    k: u64,
+    from: &[u8],
+    out: &mut [u8],
+) -> Result<u64, Refusal>
     ensures says { answer_says result ≡ places_of (convert_says back family n k from.now (length out.old)) }
     ensures holds { out.new ≡ after (convert_says back family n k from.now (length out.old)) out.old }
 {
-    let a = monotone_count::count(family, n, k);
-    let Answer::Is(c) = a else {
-        let Answer::Refused(e) = a else {
-            return Answer::Refused(Refusal::TooWide);
-        };
-        return Answer::Refused(e);
-    };
+    let c = monotone_count::count(family, n, k)?;
     if !has_entries(from.len(), c) {
-        return Answer::Refused(Refusal::Shape);
+        return Err(Refusal::Shape);
     }
     if !has_entries(out.len(), c) {
-        return Answer::Refused(Refusal::Shape);
+        return Err(Refusal::Shape);
     }
     write(back, family, n, k, c, from, out);
-    Answer::Is(out.len() as u64)
+    Ok(out.len() as u64)
 }

@@ -5,7 +5,7 @@
 --   deriving_is_linear    the derivative of a sum of tables is the sum of the derivatives, whenever the three answer
 --   entries_are_by_deletions    each entry is the sum over all deletions of s in all terms that leave its word
 use mathlib.Core.Path.{◌≡◌, sym, ap, ap₂, ◌∙◌}
-use mathlib.Core.Bool.{true, false, not}
+use mathlib.Core.Bool.{not}
 use mathlib.Core.List.{List}
 use Prim.Native.Nat.{ℕ, suc, ◌-◌, ◌<◌}
 use native.Mathlib.Omega.{arith}
@@ -16,7 +16,7 @@ use lib.IntN.{ℤ}
 use Rattle.words.specs.declared.Family.TheVariants.{Allowed}
 use Rattle.words.specs.Word.{Word, shifted_alphabet, count}
 use Rattle.words.specs.Rank.{rank_of}
-use Rattle.answers.specs.Says.{Says, gives}
+use Rattle.answers.specs.Says.{gives}
 use Rattle.answers.proofs.Says.{gives_same, passed}
 use Rattle.derivatives.specs.Derivative.{coefficient, derivative, sums, by_deletions}
 use Rattle.derivatives.proofs.Mixed.{coefficient_of_derivative, derivatives_commute}

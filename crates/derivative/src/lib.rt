@@ -10,7 +10,7 @@ ghost use Rattle.products.specs.Range.{inside};
 ghost use Rattle.derivative.specs.Rules.{entry_at, all_inside, derivative_says, table_after, table_places, Deriving};
 
 use adding::Place;
-use answers::{Answer, Refusal};
+use answers::Refusal;
 use words::Family;
 
 // How many words of k symbols below n there are; they are not too wide.
@@ -48,13 +48,11 @@ fn judge(k: u64, s: u64, m: u64, table: &[i64]) -> bool
 {
     let last = m - 1;
     let mut x = adding::start(k, s);
-    let mut r: u64 = 0;
-    while r < last {
+    for _r in 0..last {
         if !entry_fits(table, x) {
             return false;
         }
         x = adding::step(s, x);
-        r += 1;
     }
     entry_fits(table, x)
 }
@@ -66,13 +64,11 @@ fn write(k: u64, s: u64, m: u64, table: &[i64], out: &mut [i64])
 {
     let last = m - 1;
     let mut x = adding::start(k, s);
-    let mut r: u64 = 0;
-    while r < last {
+    for r in 0..last {
         let y = entry(table, x);
         let i = r as usize;
         out[i] = y;
         x = adding::step(s, x);
-        r += 1;
     }
     let y = entry(table, x);
     let i = last as usize;
@@ -82,35 +78,35 @@ fn write(k: u64, s: u64, m: u64, table: &[i64], out: &mut [i64])
 // The derivative by s of a table of degree k over n symbols, written into a lent output: 1 if k or the shifted alphabet is above 64; 7 for degree 0; 7 if s is
 // not below n; 8 if the table has not exactly its count; 8 if the output is short; 9 if an entry is outside i64, and then nothing is written. The answer is
 // how many places are written.
-pub fn derivative(n: u64, k: u64, s: u64, table: &[i64], out: &mut [i64]) -> Answer
+pub fn derivative(n: u64, k: u64, s: u64, table: &[i64], out: &mut [i64]) -> Result<u64, Refusal>
     ensures says { answer_says result ≡ table_places (derivative_says n k s table.now (length out.old)) }
     ensures holds { out.new ≡ table_after (derivative_says n k s table.now (length out.old)) out.old }
 {
     if 64 < k {
-        return Answer::Refused(Refusal::TooWide);
+        return Err(Refusal::TooWide);
     }
     if taking::too_wide(Family::Allowed, n, k) {
-        return Answer::Refused(Refusal::TooWide);
+        return Err(Refusal::TooWide);
     }
     if k == 0 {
-        return Answer::Refused(Refusal::Outside);
+        return Err(Refusal::Outside);
     }
     if n <= s {
-        return Answer::Refused(Refusal::Outside);
+        return Err(Refusal::Outside);
     }
     let have = table.len() as u64;
     let want = size(n, k);
     if have != want {
-        return Answer::Refused(Refusal::Shape);
+        return Err(Refusal::Shape);
     }
     let d = k - 1;
     let m = size(n, d);
     if (out.len() as u64) < m {
-        return Answer::Refused(Refusal::Shape);
+        return Err(Refusal::Shape);
     }
     if !judge(d, s, m, table) {
-        return Answer::Refused(Refusal::TooBig);
+        return Err(Refusal::TooBig);
     }
     write(d, s, m, table, out);
-    Answer::Is(m)
+    Ok(m)
 }

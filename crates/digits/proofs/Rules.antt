@@ -12,10 +12,7 @@ use Prim.Native.Nat.{ℕ, ◌^◌, ◌≤◌, ◌<◌}
 use native.Mathlib.Omega.{arith}
 use borrow.Author.Tests.{ltb-false, leb-false, lt-ltb, le-ltb, le-leb, lt-leb}
 use lib.Dec.{leb, ltb}
-use Rattle.answers.specs.declared.Refusal.{Refusal}
-use Rattle.answers.specs.declared.Answer.{Answer}
-use Rattle.answers.specs.declared.Answer.TheVariants.{Refused}
-use Rattle.answers.specs.Says.{Says, refuses, refuses_with, gives, refused_if, and_then, answer_says}
+use Rattle.answers.specs.Says.{Says, refuses, refuses_with, gives, refused_if, and_then}
 use Rattle.answers.proofs.Says.{gives_same, gives_never, passed, then_gave}
 use Rattle.cartesian.specs.Checks.{number_says}
 use Rattle.cartesian.proofs.Fits.{fits_small, fits_given}
@@ -25,8 +22,8 @@ use Rattle.digits.proofs.Powers.{radix_positive, power_positive, power_within}
 
 -- ---- the checks by the count
 
-pub checked_refused : (x : DigitWord) (a : Answer) (e : Refusal) → answer_says a ≡ digit_count_says x.radix x.degree → a ≡ Refused e → answer_says a ≡ check_says x
-checked_refused x a e p q = ap answer_says q ∙ ap (λ s. and_then s (λ c. refused_if (leb c x.rank) 3 (gives c))) (sym (ap answer_says q) ∙ p)
+pub checked_refused : (x : DigitWord) (d : ℕ) (f : List ℕ) → refuses_with d f ≡ digit_count_says x.radix x.degree → refuses_with d f ≡ check_says x
+checked_refused x d f p = ap (λ s. and_then s (λ c. refused_if (leb c x.rank) 3 (gives c))) p
 
 pub checked_none : (x : DigitWord) (c : ℕ) → gives c ≡ digit_count_says x.radix x.degree → c ≤ x.rank → refuses 3 ≡ check_says x
 checked_none x c p h = sym (simp (le-leb c x.rank h)) ∙ ap (λ s. and_then s (λ d. refused_if (leb d x.rank) 3 (gives d))) p

@@ -8,18 +8,12 @@
 --   symbols_says x room    these; 8; the symbols
 --   digit_symbol_says x p    these; 7; the symbol at position p
 --   from_symbols_says n w    1 if there are more than 64; 7 if a symbol is not below the radix; 9; the digit word
---   TakenOut    a symbol and what is left without it
---   worded_says, digit_deleted_says    what each case of an answer means
 use Rattle.std.specs.Prelude.{List, ℕ, ◌^◌, leb, ltb, length, get_or, replicate}
-use Rattle.answers.specs.Says.{Says, refuses_with, gives, refused_if, and_then, number_of as refusal_of, carried_by}
+use Rattle.answers.specs.Says.{Says, gives, refused_if, and_then}
 use Rattle.bits.specs.Member.{reaches}
 use Rattle.positional.specs.Positional.{positional_value, digits_of}
 use Rattle.cartesian.specs.Checks.{number_says}
 use Rattle.digits.specs.declared.DigitWord.{DigitWord}
-use Rattle.digits.specs.declared.Worded.{Worded}
-use Rattle.digits.specs.declared.Worded.TheVariants as worded
-use Rattle.digits.specs.declared.Deleted.{Deleted}
-use Rattle.digits.specs.declared.Deleted.TheVariants as deleted
 
 abbrev pub symbols_of : DigitWord → List ℕ
 symbols_of x = digits_of (replicate x.degree x.radix) x.rank
@@ -49,19 +43,3 @@ digit_symbol_says x p = given x (refused_if (leb x.degree p) 7 (gives (get_or (s
 abbrev pub from_symbols_says : ℕ → List ℕ → Says DigitWord
 from_symbols_says n w =
     refused_if (ltb 64 (length w)) 1 (refused_if (reaches n w) 7 (refused_if (leb (2 ^ 64) (n ^ length w)) 9 (gives (digit_word_of n w))))
-
--- ---- concatenation and deletion
-
-pub record TakenOut : Type 0 where
-  pub symbol : ℕ
-  pub left : DigitWord
-
--- ---- what each case of an answer means
-
-abbrev pub worded_says : Worded → Says DigitWord
-worded_says (worded.Is x) = gives x
-worded_says (worded.Refused e) = refuses_with (refusal_of e) (carried_by e)
-
-abbrev pub digit_deleted_says : Deleted → Says TakenOut
-digit_deleted_says (deleted.At s x) = gives (record { symbol = s; left = x })
-digit_deleted_says (deleted.Refused e) = refuses_with (refusal_of e) (carried_by e)

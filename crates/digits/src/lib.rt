@@ -7,9 +7,9 @@ ghost use Rattle.words.specs.Word.{Below};
 ghost use Rattle.answers.specs.Says.{answer_says, places_of, after, gives};
 ghost use Rattle.positional.specs.Positional.{positional_value, digits_of};
 ghost use Rattle.cartesian.specs.Checks.{number_says};
-ghost use Rattle.digits.specs.Rules.{digit_count_says, check_says, symbols_says, digit_symbol_says, from_symbols_says, worded_says};
+ghost use Rattle.digits.specs.Rules.{digit_count_says, check_says, symbols_says, digit_symbol_says, from_symbols_says};
 
-use answers::{Answer, Refusal};
+use answers::Refusal;
 
 // A digit word. Anyone may make one up; each call checks it.
 #[derive(Clone, Copy)]
@@ -19,18 +19,11 @@ pub struct DigitWord {
     pub rank: u64,
 }
 
-// A digit word, or why there is none.
+// A symbol, and the digit word without it.
 #[derive(Clone, Copy)]
-pub enum Worded {
-    Is(DigitWord),
-    Refused(Refusal),
-}
-
-// A symbol and the digit word without it, or why there are none.
-#[derive(Clone, Copy)]
-pub enum Deleted {
-    At(u64, DigitWord),
-    Refused(Refusal),
+pub struct TakenOut {
+    pub symbol: u64,
+    pub left: DigitWord,
 }
 
 // The base if so many factors are left that one stands alone beside their pairs; otherwise 1.
@@ -44,19 +37,20 @@ fn odd_factor(base: u64, left: u64) -> u64
 }
 
 // The radix to a power, by squares: 9 if that is 2^64 or more. 0^0 is 1.
-pub fn power(radix: u64, degree: u64) -> Answer
+pub fn power(radix: u64, degree: u64) -> Result<u64, Refusal>
     ensures { answer_says result ≡ number_says (radix ^ degree) }
 {
     let mut product: u64 = 1;
     let mut base = radix;
     let mut left = degree;
+    // The exponent is halved and no index is counted: a `for` over its digits would say less.
     while 1 < left {
         let odd = odd_factor(base, left);
         if cartesian::exceeds(product, odd) {
-            return Answer::Refused(Refusal::TooBig);
+            return Err(Refusal::TooBig);
         }
         if cartesian::exceeds(base, base) {
-            return Answer::Refused(Refusal::TooBig);
+            return Err(Refusal::TooBig);
         }
         product *= odd;
         base *= base;
@@ -64,36 +58,33 @@ pub fn power(radix: u64, degree: u64) -> Answer
     }
     let odd = odd_factor(base, left);
     if cartesian::exceeds(product, odd) {
-        return Answer::Refused(Refusal::TooBig);
+        return Err(Refusal::TooBig);
     }
-    Answer::Is(product * odd)
+    Ok(product * odd)
 }
 
 // How many words of a degree there are over a radix: 1 if the degree is above 64; 9.
-pub fn count(radix: u64, degree: u64) -> Answer
+pub fn count(radix: u64, degree: u64) -> Result<u64, Refusal>
     ensures { answer_says result ≡ digit_count_says radix degree }
 {
     if 64 < degree {
-        return Answer::Refused(Refusal::TooWide);
+        return Err(Refusal::TooWide);
     }
     power(radix, degree)
 }
 
 // The checks of a given word: those of its count; 3 if its rank is not below that. The answer is the count.
-pub fn check(x: DigitWord) -> Answer
+pub fn check(x: DigitWord) -> Result<u64, Refusal>
     ensures { answer_says result ≡ check_says x }
 {
     let radix = x.radix;
     let degree = x.degree;
     let rank = x.rank;
-    let a = count(radix, degree);
-    let Answer::Is(c) = a else {
-        return a;
-    };
+    let c = count(radix, degree)?;
     if c <= rank {
-        return Answer::Refused(Refusal::NoSuchRank);
+        return Err(Refusal::NoSuchRank);
     }
-    Answer::Is(c)
+    Ok(c)
 }
 
 // Writes the symbols, that of position 0 first.
@@ -102,52 +93,41 @@ fn write_symbols(radix: u64, degree: u64, rank: u64, out: &mut [u64])
     ensures { out.new ≡ after (gives (digits_of (replicate degree radix) rank)) out.old }
 {
     let mut left = rank;
-    let mut i: u64 = 0;
-    while i < degree {
+    for i in 0..degree {
         out[i as usize] = left % radix;
         left /= radix;
-        i += 1;
     }
 }
 
 // The symbols of a word, written into a lent output: 1, 9, 3; 8. The answer is how many places are written.
-pub fn symbols(x: DigitWord, out: &mut [u64]) -> Answer
+pub fn symbols(x: DigitWord, out: &mut [u64]) -> Result<u64, Refusal>
     ensures says { answer_says result ≡ places_of (symbols_says x (length out.old)) }
     ensures holds { out.new ≡ after (symbols_says x (length out.old)) out.old }
 {
     let radix = x.radix;
     let degree = x.degree;
     let rank = x.rank;
-    let a = check(x);
-    let Answer::Is(_) = a else {
-        return a;
-    };
+    check(x)?;
     if (out.len() as u64) < degree {
-        return Answer::Refused(Refusal::Shape);
+        return Err(Refusal::Shape);
     }
     write_symbols(radix, degree, rank, out);
-    Answer::Is(degree)
+    Ok(degree)
 }
 
 // The symbol at a position of a word: 1, 9, 3; 7 if it has no such position.
-pub fn symbol(x: DigitWord, p: u64) -> Answer
+pub fn symbol(x: DigitWord, p: u64) -> Result<u64, Refusal>
     ensures { answer_says result ≡ digit_symbol_says x p }
 {
     let radix = x.radix;
     let degree = x.degree;
     let rank = x.rank;
-    let a = check(x);
-    let Answer::Is(_) = a else {
-        return a;
-    };
+    check(x)?;
     if degree <= p {
-        return Answer::Refused(Refusal::Outside);
+        return Err(Refusal::Outside);
     }
-    let b = power(radix, p);
-    let Answer::Is(stride) = b else {
-        return b;
-    };
-    Answer::Is(rank / stride % radix)
+    let stride = power(radix, p)?;
+    Ok(rank / stride % radix)
 }
 
 // The symbols as a positional number, from the highest position down.
@@ -156,30 +136,26 @@ fn number(radix: u64, symbols: &[u64]) -> u64
     ensures { result ≡ positional_value (replicate (length symbols.now) radix) symbols.now }
 {
     let mut above: u64 = 0;
-    let mut i = symbols.len();
-    while 0 < i {
-        i -= 1;
+    for i in (0..symbols.len()).rev() {
         above = above * radix + symbols[i];
     }
     above
 }
 
 // The word of the given symbols over a radix: 1 if there are more than 64; 7 if one is not below the radix; 9.
-pub fn from_symbols(radix: u64, symbols: &[u64]) -> Worded
-    ensures { worded_says result ≡ from_symbols_says radix symbols.now }
+pub fn from_symbols(radix: u64, symbols: &[u64]) -> Result<DigitWord, Refusal>
+    ensures { answer_says result ≡ from_symbols_says radix symbols.now }
 {
     let degree = symbols.len() as u64;
     if 64 < degree {
-        return Worded::Refused(Refusal::TooWide);
+        return Err(Refusal::TooWide);
     }
     if packing::reaches(radix, symbols) {
-        return Worded::Refused(Refusal::Outside);
+        return Err(Refusal::Outside);
     }
-    let Answer::Is(_) = power(radix, degree) else {
-        return Worded::Refused(Refusal::TooBig);
-    };
+    let _ = power(radix, degree)?;
     let rank = number(radix, symbols);
-    Worded::Is(DigitWord {
+    Ok(DigitWord {
         radix,
         degree,
         rank,

@@ -5,8 +5,8 @@
 --   stabilizer_is_a_product_of_factorials    the stabilizer is the product of the factorials of the multiplicities of the symbols below the radix
 use mathlib.Core.Path.{◌≡◌, refl, sym, ap, ap₂, subst, ◌∙◌}
 use mathlib.Core.Bool.{not}
-use mathlib.Core.List.{List, [], ◌∷◌, ◌++◌}
-use Prim.Native.Nat.{ℕ, zero, suc, ◌+◌, ◌-◌, ◌^◌, ◌≤◌, ◌<◌}
+use mathlib.Core.List.{List, ◌++◌}
+use Prim.Native.Nat.{ℕ, suc, ◌+◌, ◌-◌, ◌^◌, ◌≤◌, ◌<◌}
 use native.Mathlib.Omega.{arith}
 use borrow.Author.Tests.{ltb-false, leb-false, eqb-true, not-false}
 use lib.Dec.{leb, ltb, eqb}
@@ -24,13 +24,14 @@ use Rattle.cartesian.proofs.Fits.{fits_given}
 use Rattle.deletion.specs.Multiplicities.{stabilizer_below, stabilizer_of}
 use Rattle.deletion.proofs.Multiplicities.{stabilizer_over}
 use Rattle.digits.specs.declared.DigitWord.{DigitWord}
-use Rattle.digits.specs.Rules.{symbols_of, digit_word_of, check_says, symbols_says, TakenOut}
+use Rattle.digits.specs.Rules.{symbols_of, digit_word_of, check_says, symbols_says}
 use Rattle.digits_algebra.specs.Rules.{multiplicity_says, digit_stabilizer_says, digit_join_says, concat_says, take_says, digit_delete_says}
 use Rattle.digits.proofs.Powers.{power_within}
 use Rattle.digits.proofs.Positions.{symbols_long}
 use Rattle.digits.proofs.Rules.{Known, known}
 use Rattle.digits.proofs.Promises.{checks_of, symbols_below, symbols_of_word}
 use Rattle.digits_algebra.proofs.Joining.{taken-long}
+use Rattle.digits.specs.declared.TakenOut.{TakenOut}
 
 pub concatenation_joins_the_symbols : (x y z : DigitWord) (room : ℕ) → concat_says x y ≡ gives z → x.degree + y.degree ≤ room
     → symbols_says z room ≡ gives (symbols_of x ++ symbols_of y)

@@ -13,9 +13,8 @@ use Rattle.answers.specs.Says.{Says, gives, refused_if}
 use Rattle.cartesian.specs.Checks.{number_says}
 use Rattle.deletion.specs.Multiplicities.{stabilizer_of}
 use Rattle.digits.specs.declared.DigitWord.{DigitWord}
-use Rattle.digits.specs.declared.Worded.TheVariants as worded
-use Rattle.digits.specs.declared.Deleted.TheVariants as deleted
-use Rattle.digits.specs.Rules.{symbols_of, digit_word_of, given, TakenOut}
+use Rattle.digits.specs.Rules.{symbols_of, digit_word_of, given}
+use Rattle.digits.specs.declared.TakenOut.{TakenOut}
 
 abbrev pub multiplicity_says : DigitWord → ℕ → Says ℕ
 multiplicity_says x s = given x (gives (multiplicity s (symbols_of x)))

@@ -6,7 +6,6 @@ ghost use Rattle.surface.specs.Mass.{mass_of, add_terms};
 ghost use Rattle.surface.specs.Surface.{numbers_at, table_of, surface_of, Surface};
 ghost use Rattle.evaluation.specs.Rows.{highest_degree, from_row, Scaled};
 
-use answers::Answer;
 use little_endian::{eight, four, wide};
 
 // To sum, the terms of degree k: its body starts at `at`, and row holds the monomial of rank j at k - j.
@@ -15,11 +14,9 @@ fn add_degree(image: &[u8], at: u64, k: u64, row: &[f64; 64], sum: f64) -> f64
     ensures { result ≡ add_terms (from_row row.now k) 0 (numbers_at image.now at (k + 1)) sum }
 {
     let mut sum = sum;
-    let mut j = 0u64;
-    while j <= k {
+    for j in 0..k + 1 {
         let c = rounded::of_bits(eight(image, at + 8 * j));
         sum = sum + c * row[(k - j) as usize];
-        j += 1;
     }
     sum
 }
@@ -30,8 +27,8 @@ fn add_table(image: &[u8], t: u64, k: u64, row: &[f64; 64], sum: f64) -> f64
     ensures { result ≡ add_terms (from_row row.now k) 0 (table_of image.now k) sum }
 {
     match image_reading::find(image, t, 1, k) {
-        Answer::Refused(_) => sum,
-        Answer::Is(i) => add_degree(image, four(image, 4 + 12 * i + 4), k, row, sum),
+        Err(_) => sum,
+        Ok(i) => add_degree(image, four(image, 4 + 12 * i + 4), k, row, sum),
     }
 }
 
@@ -40,21 +37,9 @@ fn scale(row: &mut [f64; 64], n: u64, t: f64)
     requires { (n ≤ 64) × (length row.old ≡ 64) }
     ensures { Scaled n t row.old row.new }
 {
-    let mut a = 0u64;
-    while a < n {
+    for a in 0..n {
         row[a as usize] = row[a as usize] * t;
-        a += 1;
     }
-}
-
-// The larger of two degrees.
-fn larger(a: u64, b: u64) -> u64
-    ensures { result ≡ max a b }
-{
-    if a < b {
-        return b;
-    }
-    a
 }
 
 // The highest degree among the first t rows.
@@ -63,11 +48,10 @@ fn highest(image: &[u8], t: u64) -> u64
     ensures { result ≡ highest_degree image.now t }
 {
     let mut top = 0u64;
-    let mut i = 0u64;
-    while i < t {
+    for i in 0..t {
         let j = (4 + 12 * i) as usize;
-        top = larger(top, wide(image[j + 1]));
-        i += 1;
+        let degree = wide(image[j + 1]);
+        top = top.max(degree);
     }
     top
 }
@@ -82,13 +66,11 @@ pub fn evaluate(image: &[u8], t: u64, pressure: f64, temperature: f64) -> f64
     let mut row = [0.0f64; 64];
     let mut power = 1.0;
     let mut sum = 0.0;
-    let mut k = 0u64;
-    while k <= top {
+    for k in 0..top + 1 {
         row[k as usize] = power;
         sum = add_table(image, t, k, &row, sum);
         scale(&mut row, k + 1, temperature);
         power = power * pressure;
-        k += 1;
     }
     sum
 }

@@ -1,16 +1,18 @@
 -- Texts that are laid beside a pattern, letter by letter. Assumes nothing.
 --   told_not    a test that fails tells that there is none
---   number-stands, no-number-stands, family-stands, no-family-stands, bytes-stand, slash-stands, nothing-stands    what the letters stand for, and another letter for nothing
---   number_is, no-number-is, family-is, no-family-is    what the text at a place says
+--   number-stands, family-stands, bytes-stand, slash-stands, nothing-stands    what the letters stand for, and another letter for nothing
+--   number_is, family-is    what the text at a place says
 --   letter-missing, letter-passed, letter-back    past the end no text is left, and one text is passed with its letter
 --   letters_passed    with no letter left, what is ahead is the rest
 --   another-verb, not-asked, asked    a request of another verb or whose texts are not those of the pattern is not asked for; where they begin so, it is exactly if the rest begins past the end
---   another-begins, not-begun, begun    the same of texts that begin with those of the pattern
+--   another-begins, begun    the same of texts that begin with those of the pattern
+use Rattle.std.specs.Prelude.{Option, Some, None, is_some}
+use Rattle.std.specs.Option.{unwrap_or}
 use mathlib.Core.Bool.{Bool, true, false}
 use mathlib.Core.Path.{◌≡◌, refl, sym, ap, subst, ◌∙◌}
-use mathlib.Core.Logic.{◌⊎◌, inl, inr}
+use mathlib.Core.Logic.{inl, inr}
 use mathlib.Core.List.{List, [], ◌∷◌}
-use Prim.Native.Nat.{ℕ, ◌+◌, ◌-◌, ◌^◌, ◌≤◌, ◌<◌}
+use Prim.Native.Nat.{ℕ, ◌+◌, ◌-◌, ◌≤◌, ◌<◌}
 use native.Mathlib.Numerals.{add-one}
 use native.Mathlib.Omega.{arith}
 use lib.Dec.{ltb}
@@ -20,16 +22,12 @@ use borrow.Author.Tests.{ltb-true, ltb-false}
 use Rattle.text.specs.Text.{Found}
 use Rattle.text.specs.Names.{name_of, Names}
 use Rattle.text.specs.Numeral.{Numeral, Reads}
-use Rattle.text.specs.declared.Named.{Named}
-use Rattle.text.specs.declared.Named.TheVariants as named
-use Rattle.text.specs.declared.Number.{Number}
-use Rattle.text.specs.declared.Number.TheVariants as read
 use Rattle.words.specs.declared.Family.{Family}
 use Rattle.words.specs.declared.Family.TheVariants.{Forbidden, Allowed}
 use Rattle.requests.specs.Protocol.{texts_from}
 use Rattle.requests.proofs.Texts.{texts_at, no_texts_past, some_text}
 use Rattle.spelling.specs.Hex.{IsBytes}
-use Rattle.fields.specs.Fields.{IsNumber, IsFamily, Stands, AllStand, Asks, Begins, NumberIs, FamilyIs}
+use Rattle.fields.specs.Fields.{IsNumber, IsFamily, Stands, AllStand, Passes, Asks, Begins, NumberIs, FamilyIs}
 
 refused : {A : Type 0} → false ≡ true → A
 refused e = absurd (let z : ◌≡◌ {A = ℕ} 0 1 = cc in omega arith)
@@ -73,19 +71,13 @@ module _ (letter : ℕ) (text : List ℕ) where
   is-slash e (inr (inr (inl s))) = absurd (omega (arith, s.0))
   is-slash e (inr (inr (inr s))) = s.1
 
-  pub number-stands : (r : Number) (n : ℕ) → letter ≡ 110 → r ≡ read.Is n → Reads text r → Decides true letter text
-  number-stands r n e q o =
-      let s = subst (Reads text) q o in
-      (λ t. inl (e, record { value = n; writes = s.0; fits = s.1 }), λ t. refl)
+  pub number-stands : (r : Option ℕ) → letter ≡ 110 → Reads text r → Decides (is_some r) letter text
+  number-stands (Some n) e o = (λ t. inl (e, record { value = n; writes = o.0; fits = o.1 }), λ t. refl)
+  number-stands None e o = (λ t. refused t, λ s. let g = is_number e s in absurd (o g.value g.fits g.writes))
 
-  pub no-number-stands : (r : Number) → letter ≡ 110 → r ≡ read.Bad → Reads text r → Decides false letter text
-  no-number-stands r e q o = (λ t. refused t, λ s. let g = is_number e s in absurd (subst (Reads text) q o g.value g.fits g.writes))
-
-  pub family-stands : (r : Named) (F : Family) → letter ≡ 70 → r ≡ named.Family F → Names text r → Decides true letter text
-  family-stands r F e q o = (λ t. inr (inl (e, record { family = F; names = subst (Names text) q o })), λ t. refl)
-
-  pub no-family-stands : (r : Named) → letter ≡ 70 → r ≡ named.Nothing → Names text r → Decides false letter text
-  no-family-stands r e q o = (λ t. refused t, λ s. let g = is-family e s in absurd (subst (Names text) q o g.family g.names))
+  pub family-stands : (r : Option Family) → letter ≡ 70 → Names text r → Decides (is_some r) letter text
+  family-stands (Some F) e o = (λ t. inr (inl (e, record { family = F; names = o })), λ t. refl)
+  family-stands None e o = (λ t. refused t, λ s. let g = is-family e s in absurd (o g.family g.names))
 
   pub bytes-stand : (r : Bool) → letter ≡ 66 → (r ≡ true → IsBytes text) × (IsBytes text → r ≡ true) → Decides r letter text
   bytes-stand r e o = (λ t. inr (inr (inl (e, o.0 t))), λ s. o.1 (is-bytes e s))
@@ -105,17 +97,13 @@ module _ (letter : ℕ) (text : List ℕ) where
 -- ---- what the text at a place says
 
 module _ (text there : List ℕ) where
-  pub number_is : (r : Number) (n : ℕ) → there ≡ text → r ≡ read.Is n → Reads there r → NumberIs text n
-  number_is r n e q o m w l = sym (subst (Reads there) q o).0.value ∙ (subst (λ (t : List ℕ). Numeral t m) (sym e) w).value
+  pub number_is : (r : Option ℕ) (d : ℕ) → there ≡ text → Reads there r → NumberIs text (unwrap_or r d)
+  number_is (Some n) d e o m w l = sym o.0.value ∙ (subst (λ (t : List ℕ). Numeral t m) (sym e) w).value
+  number_is None d e o m w l = absurd (o m l (subst (λ (t : List ℕ). Numeral t m) (sym e) w))
 
-  pub no-number-is : (r : Number) → there ≡ text → r ≡ read.Bad → Reads there r → NumberIs text 0
-  no-number-is r e q o m w l = absurd (subst (Reads there) q o m l (subst (λ (t : List ℕ). Numeral t m) (sym e) w))
-
-  pub family-is : (r : Named) (F : Family) → there ≡ text → r ≡ named.Family F → Names there r → FamilyIs text F
-  family-is r F e q o G w = one_family F G (sym (subst (Names there) q o) ∙ e ∙ w)
-
-  pub no-family-is : (r : Named) (F : Family) → there ≡ text → r ≡ named.Nothing → Names there r → FamilyIs text F
-  no-family-is r F e q o G w = absurd (subst (Names there) q o G (e ∙ w))
+  pub family-is : (r : Option Family) (D : Family) → there ≡ text → Names there r → FamilyIs text (unwrap_or r D)
+  family-is (Some F) D e o G w = one_family F G (sym o ∙ e ∙ w)
+  family-is None D e o G w = absurd (o G (e ∙ w))
 
 -- ---- from letter to letter
 
@@ -173,8 +161,6 @@ module _ (verb name pattern line : List ℕ) (texts : List (List ℕ)) where
   pub another-begins : (verb ≡ name → ⊥) → (false ≡ true → Begins verb name pattern texts) × (Begins verb name pattern texts → false ≡ true)
   another-begins d = (λ t. refused t, λ a. absurd (d a.named))
 
-  pub not-begun : ((rest : List (List ℕ)) → AllStand pattern texts rest → ⊥) → (false ≡ true → Begins verb name pattern texts) × (Begins verb name pattern texts → false ≡ true)
-  not-begun d = (λ t. refused t, λ a. absurd (d a.rest a.first))
-
-  pub begun : (rest : List (List ℕ)) → verb ≡ name → AllStand pattern texts rest → (true ≡ true → Begins verb name pattern texts) × (Begins verb name pattern texts → true ≡ true)
-  begun rest e s = (λ t. record { named = e; rest = rest; first = s }, λ a. refl)
+  pub begun : (r : Option ℕ) → verb ≡ name → Passes pattern line texts r → (is_some r ≡ true → Begins verb name pattern texts) × (Begins verb name pattern texts → is_some r ≡ true)
+  begun (Some r) e s = (λ t. record { named = e; rest = texts_from line r; first = s }, λ a. refl)
+  begun None e d = (λ t. refused t, λ a. absurd (d a.rest a.first))

@@ -3,7 +3,8 @@
 --   listed_none, listed_kept, listed-all    at the beginning, one text further, and at the end
 --   signed_there    a list of the same texts
 --   listed-bad, listed-full    a text that is no signed number, and one that has no place, make the list bad
-use mathlib.Core.Path.{◌≡◌, refl, sym, ap, ap₂, subst, ◌∙◌}
+use Rattle.std.specs.Prelude.{Option}
+use mathlib.Core.Path.{◌≡◌, refl, sym, ap, subst, ◌∙◌}
 use mathlib.Core.List.{List, [], ◌∷◌, ◌++◌, append_assoc, append-nil}
 use Prim.Native.Nat.{ℕ, suc, ◌+◌, ◌≤◌, ◌<◌}
 use native.Mathlib.Numerals.{add-one}
@@ -13,7 +14,6 @@ use lib.IntN.{ℤ, pos}
 use lib.Seq.{drop-cons, set_at}
 use Rattle.spelling.specs.Signed.{SignedNumeral, InRange}
 use Rattle.spelling.proofs.Minus.{one_signed}
-use Rattle.fields.specs.declared.Many.{Many}
 use Rattle.fields.specs.Fields.{AllSigned, SignedAre, SignedIn}
 
 pub record Listed (texts ahead : List (List ℕ)) (table₀ table : List ℤ) (n : ℕ) : Type 0 where
@@ -92,5 +92,5 @@ module _ (texts ahead : List (List ℕ)) (table₀ table : List ℤ) (n : ℕ) (
           let q = first_signed u us p.0 p.2 in
           omega (arith, o.long, o.many, ap length p.1, length-append o.numbers p.0, ap length q.2)
 
-pub signed_there : (texts there : List (List ℕ)) (table table' : List ℤ) (r : Many) → there ≡ texts → SignedIn there table table' r → SignedIn texts table table' r
+pub signed_there : (texts there : List (List ℕ)) (table table' : List ℤ) (r : Option ℕ) → there ≡ texts → SignedIn there table table' r → SignedIn texts table table' r
 signed_there texts there table table' r e o = subst (λ (ts : List (List ℕ)). SignedIn ts table table' r) e o

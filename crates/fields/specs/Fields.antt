@@ -1,23 +1,19 @@
 -- The texts of a request as the pattern of its verb reads them (docs/RULES.md, section 13). Assumes nothing.
 --   Stands letter text    the text is what a letter stands for: n a number below 2 ^ 64, F a family, B bytes, / itself
 --   AllStand pattern texts rest    the texts begin with those of a pattern, and the rest follow
---   Passes pattern line texts r    r is the place in the line where that rest begins, and bad exactly if the texts do not begin so
+--   Passes pattern line texts r    r is the place in the line where that rest begins, and none exactly if the texts do not begin so
 --   Asks verb name pattern texts    the verb is the name, and the texts are those of the pattern
 --   Begins verb name pattern texts    the verb is the name, and the texts begin with those of the pattern
 --   NumberIs text n, FamilyIs text F    n is the number and F the family that the text says, if it says one
 --   AllSigned texts zs    the texts are the numerals of the signed numbers zs
---   SignedIn texts table table' r    r is how many they are, and they stand in the first places of the table; it is bad exactly if the texts are none, or more than there are places
-use Rattle.std.specs.Prelude.{List, [], ◌∷◌, ◌++◌, ◌⊎◌, ◌≡◌, ℕ, ◌^◌, ◌≤◌, ◌<◌, length, drop, ℤ}
+--   SignedIn texts table table' r    r is how many they are, and they stand in the first places of the table; it is none exactly if the texts are none, or more than there are places
+use Rattle.std.specs.Prelude.{Option, Some, None, List, [], ◌∷◌, ◌++◌, ◌⊎◌, ◌≡◌, ℕ, ◌^◌, ◌≤◌, ◌<◌, length, drop, ℤ}
 use Rattle.words.specs.declared.Family.{Family}
 use Rattle.text.specs.Names.{name_of}
 use Rattle.text.specs.Numeral.{Numeral}
 use Rattle.requests.specs.Protocol.{texts_from}
 use Rattle.spelling.specs.Hex.{IsBytes}
 use Rattle.spelling.specs.Signed.{SignedNumeral, InRange}
-use Rattle.fields.specs.declared.Past.{Past}
-use Rattle.fields.specs.declared.Past.TheVariants as past
-use Rattle.fields.specs.declared.Many.{Many}
-use Rattle.fields.specs.declared.Many.TheVariants as many
 
 pub record IsNumber (text : List ℕ) : Type 0 where
   pub value : ℕ
@@ -37,9 +33,9 @@ AllStand [] texts rest = texts ≡ rest
 AllStand (l ∷ p) [] rest = ⊥
 AllStand (l ∷ p) (t ∷ ts) rest = Stands l t × AllStand p ts rest
 
-abbrev pub Passes : List ℕ → List ℕ → List (List ℕ) → Past → Type 0
-Passes pattern line texts (past.At r) = AllStand pattern texts (texts_from line r)
-Passes pattern line texts past.Bad = (rest : List (List ℕ)) → AllStand pattern texts rest → ⊥
+abbrev pub Passes : List ℕ → List ℕ → List (List ℕ) → Option ℕ → Type 0
+Passes pattern line texts (Some r) = AllStand pattern texts (texts_from line r)
+Passes pattern line texts None = (rest : List (List ℕ)) → AllStand pattern texts rest → ⊥
 
 pub record Asks (verb name pattern : List ℕ) (texts : List (List ℕ)) : Type 0 where
   pub named : verb ≡ name
@@ -69,6 +65,6 @@ pub record SignedAre (texts : List (List ℕ)) (table table' : List ℤ) (n : �
   pub first : table' ≡ numbers ++ drop n table
   pub hold : n ≤ length table'
 
-abbrev pub SignedIn : List (List ℕ) → List ℤ → List ℤ → Many → Type 0
-SignedIn texts table table' (many.Are n) = SignedAre texts table table' n
-SignedIn texts table table' many.Bad = (zs : List ℤ) → length zs ≤ length table → AllSigned texts zs → ⊥
+abbrev pub SignedIn : List (List ℕ) → List ℤ → List ℤ → Option ℕ → Type 0
+SignedIn texts table table' (Some n) = SignedAre texts table table' n
+SignedIn texts table table' None = (zs : List ℤ) → length zs ≤ length table → AllSigned texts zs → ⊥

@@ -7,39 +7,17 @@ ghost use Rattle.requests.specs.Protocol.{texts_from};
 ghost use Rattle.spelling.specs.Hex.{BytesIn};
 ghost use Rattle.fields.specs.Fields.{Stands, Passes, Asks, Begins, NumberIs, FamilyIs, SignedIn};
 
-use spelling::Whole;
-use text::{Named, Number};
 use words::Family;
-
-// Where the words after those of a pattern begin.
-#[derive(Clone, Copy)]
-pub enum Past {
-    At(usize),
-    Bad,
-}
-
-// How many signed numbers a list has.
-#[derive(Clone, Copy)]
-pub enum Many {
-    Are(usize),
-    Bad,
-}
 
 // Whether a text is what a letter stands for: n a number, F a family, B bytes, / itself.
 fn stands(text: &[u8], letter: u8) -> bool
     ensures { (result ≡ true → Stands letter text.now) × (Stands letter text.now → result ≡ true) }
 {
     if letter == b'n' {
-        let Number::Is(_) = text::read_number(text) else {
-            return false;
-        };
-        return true;
+        return text::read_number(text).is_some();
     }
     if letter == b'F' {
-        let Named::Family(_) = text::family(text) else {
-            return false;
-        };
-        return true;
+        return text::family(text).is_some();
     }
     if letter == b'B' {
         return spelling::is_bytes(text);
@@ -51,23 +29,21 @@ fn stands(text: &[u8], letter: u8) -> bool
 }
 
 // The place after the texts of a pattern, where those from place `from` on begin with them.
-fn after(line: &[u8], from: usize, pattern: &[u8]) -> Past
+fn after(line: &[u8], from: usize, pattern: &[u8]) -> Option<usize>
     ensures { Passes pattern.now line.now (texts_from line.now from) result }
 {
     let mut at = from;
-    let mut j = 0;
-    while j < pattern.len() {
+    for letter in pattern {
         if at > line.len() {
-            return Past::Bad;
+            return None;
         }
         let end = text::find(line, at, b' ');
-        if !stands(&line[at..end], pattern[j]) {
-            return Past::Bad;
+        if !stands(&line[at..end], *letter) {
+            return None;
         }
         at = end + 1;
-        j += 1;
     }
-    Past::At(at)
+    Some(at)
 }
 
 // Whether a request is of a verb, and the texts after it, from place `from` on, are those of a pattern.
@@ -78,8 +54,8 @@ pub fn asks(verb: &[u8], name: &[u8], line: &[u8], from: usize, pattern: &[u8]) 
         return false;
     }
     match after(line, from, pattern) {
-        Past::At(r) => r > line.len(),
-        Past::Bad => false,
+        Some(r) => r > line.len(),
+        None => false,
     }
 }
 
@@ -90,10 +66,7 @@ pub fn begins(verb: &[u8], name: &[u8], line: &[u8], from: usize, pattern: &[u8]
     if !check::same(verb, name) {
         return false;
     }
-    match after(line, from, pattern) {
-        Past::At(_) => true,
-        Past::Bad => false,
-    }
+    after(line, from, pattern).is_some()
 }
 
 // Where the i-th text begins, of those from place `from` on; past the end where there are no more than i.
@@ -101,13 +74,11 @@ fn place(line: &[u8], from: usize, i: usize) -> usize
     ensures { texts_from line.now result ≡ drop i (texts_from line.now from) }
 {
     let mut at = from;
-    let mut k = 0;
-    while k < i {
+    for _ in 0..i {
         if at > line.len() {
             return at;
         }
         at = text::find(line, at, b' ') + 1;
-        k += 1;
     }
     at
 }
@@ -128,20 +99,14 @@ pub fn text_at(line: &[u8], from: usize, i: usize) -> &[u8]
 pub fn number(line: &[u8], from: usize, i: usize) -> u64
     ensures { NumberIs (get_or (texts_from line.now from) i []) result }
 {
-    let Number::Is(n) = text::read_number(text_at(line, from, i)) else {
-        return 0;
-    };
-    n
+    text::read_number(text_at(line, from, i)).unwrap_or(0)
 }
 
 // The family that it names.
 pub fn family(line: &[u8], from: usize, i: usize) -> Family
     ensures { FamilyIs (get_or (texts_from line.now from) i []) result }
 {
-    let Named::Family(f) = text::family(text_at(line, from, i)) else {
-        return Family::Forbidden;
-    };
-    f
+    text::family(text_at(line, from, i)).unwrap_or(Family::Forbidden)
 }
 
 // The bytes that it writes, into the first places of a buffer that holds them: answers how many they are.
@@ -152,28 +117,27 @@ pub fn bytes(line: &[u8], from: usize, i: usize, held: &mut [u8]) -> usize
 }
 
 // The signed numbers from place `from` on, where all texts are that and the table has places for them.
-fn list(line: &[u8], from: usize, table: &mut [i64]) -> Many
+fn list(line: &[u8], from: usize, table: &mut [i64]) -> Option<usize>
     ensures { SignedIn (texts_from line.now from) table.old table.new result }
 {
     let mut at = from;
-    let mut n = 0;
-    while at <= line.len() {
-        if n >= table.len() {
-            return Many::Bad;
+    for n in 0..table.len() {
+        if at > line.len() {
+            return Some(n);
         }
         let end = text::find(line, at, b' ');
-        let Whole::Is(z) = spelling::read_signed(&line[at..end]) else {
-            return Many::Bad;
-        };
+        let z = spelling::read_signed(&line[at..end])?;
         table[n] = z;
-        n += 1;
         at = end + 1;
     }
-    Many::Are(n)
+    if at <= line.len() {
+        return None;
+    }
+    Some(table.len())
 }
 
 // The signed numbers from the i-th text on.
-pub fn signed(line: &[u8], from: usize, i: usize, table: &mut [i64]) -> Many
+pub fn signed(line: &[u8], from: usize, i: usize, table: &mut [i64]) -> Option<usize>
     ensures { SignedIn (drop i (texts_from line.now from)) table.old table.new result }
 {
     list(line, place(line, from, i), table)

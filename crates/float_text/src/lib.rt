@@ -2,7 +2,6 @@
 #![tactic(auto)]
 
 use little_endian::wide;
-use text::Number;
 
 // The number of eight bytes, the highest first.
 fn highest_first(s: &[u8; 8]) -> u64 {
@@ -18,16 +17,16 @@ fn highest_first(s: &[u8; 8]) -> u64 {
 }
 
 // The bits that a word writes: exactly sixteen digits.
-pub fn read(word: &[u8]) -> Number {
+pub fn read(word: &[u8]) -> Option<u64> {
     if word.len() != 16 {
-        return Number::Bad;
+        return None;
     }
     if !spelling::is_bytes(word) {
-        return Number::Bad;
+        return None;
     }
     let mut eight = [0u8; 8];
     spelling::bytes(word, &mut eight);
-    Number::Is(highest_first(&eight))
+    Some(highest_first(&eight))
 }
 
 // The byte of a number above which are the higher ones.

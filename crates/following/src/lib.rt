@@ -16,16 +16,15 @@ fn run(bits: u64) -> u64
 {
     let mut left = bits::without_lowest(bits);
     let mut top = bits::lowest(bits);
-    let mut t: u64 = 0;
-    while left != 0 {
+    let k = bits::count_ones(left);
+    for t in 0..k {
         if bits::lowest(left) != top + 1 {
             return t;
         }
         left = bits::without_lowest(left);
         top += 1;
-        t += 1;
     }
-    t
+    k
 }
 
 // How many sets stand later in lexicographic order than the one that is next in colex order; later is how many stand later than the set itself, which is not the

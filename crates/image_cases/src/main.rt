@@ -33,10 +33,8 @@ fn put_at(lines: &mut [u8], i: usize, b: u8) {
 
 // A description, with the end of a line where `|` stands.
 fn broken(words: &[u8], lines: &mut [u8]) {
-    let mut i = 0;
-    while i < words.len() {
-        put_at(lines, i, words[i]);
-        i += 1;
+    for (i, b) in words.iter().enumerate() {
+        put_at(lines, i, *b);
     }
 }
 
@@ -80,6 +78,7 @@ fn answer(rt: &impl Print, line: &[u8]) -> io::Result<()> {
 
 fn answer_each(rt: &impl Print, input: &[u8]) -> io::Result<()> {
     let mut at = 0;
+    // The loop goes from line to line by where each one ends: what a split gives is one line more after the last newline.
     while at < input.len() {
         let end = text::find(input, at, b'\n');
         answer(rt, &input[at..end])?;

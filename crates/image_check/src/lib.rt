@@ -6,11 +6,11 @@ ghost use Rattle.answers.specs.Says.{answer_says};
 ghost use Rattle.image_rules.specs.Image.{check_says, image_says};
 ghost use Rattle.image_row.specs.Steps.{Covers};
 
-use answers::Answer;
+use answers::Refusal;
 use little_endian::{four, wide};
 
 // The verdict on an image of size bytes, of which s has the first 772, or all if it is shorter.
-pub fn check_within(s: &[u8], size: u64) -> Answer
+pub fn check_within(s: &[u8], size: u64) -> Result<u64, Refusal>
     requires { Covers (length s.now) size }
     ensures { answer_says result ≡ check_says s.now size }
 {
@@ -26,18 +26,12 @@ pub fn check_within(s: &[u8], size: u64) -> Answer
     }
     let mut used = [false; 130];
     let mut place = 4 + 12 * t;
-    let mut i = 0u64;
-    while i < t {
+    for i in 0..t {
         let at = 4 + 12 * i;
-        match image_row::row(s, size, at, place, &used) {
-            Answer::Refused(e) => return Answer::Refused(e),
-            Answer::Is(c) => {
-                let j = at as usize;
-                used[(65 * wide(s[j]) + wide(s[j + 1])) as usize] = true;
-                place += 8 * c;
-                i += 1;
-            }
-        }
+        let c = image_row::row(s, size, at, place, &used)?;
+        let j = at as usize;
+        used[(65 * wide(s[j]) + wide(s[j + 1])) as usize] = true;
+        place += 8 * c;
     }
     if size < place {
         return image_row::bad(size);
@@ -45,11 +39,11 @@ pub fn check_within(s: &[u8], size: u64) -> Answer
     if place < size {
         return image_row::bad(place);
     }
-    Answer::Is(t)
+    Ok(t)
 }
 
 // The check of a whole image: 11 with the offset of the first wrong field; otherwise the number of tables.
-pub fn check(image: &[u8]) -> Answer
+pub fn check(image: &[u8]) -> Result<u64, Refusal>
     ensures { answer_says result ≡ image_says image.now }
 {
     check_within(image, image.len() as u64)

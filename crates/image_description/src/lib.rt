@@ -5,13 +5,11 @@
 ghost use Rattle.std.specs.Prelude.{◌≡◌, ◌+◌, ◌*◌, ◌≤◌, ◌<◌, length};
 
 use little_endian::wide;
-use text::{Named, Number};
 use words::Family;
 
-// What is wrong with a description, if anything.
+// What may be wrong with a description.
 #[derive(Clone, Copy)]
 pub enum Wrong {
-    Nothing,
     Family,
     Degree,
     Alphabet,
@@ -22,15 +20,20 @@ pub enum Wrong {
     MoreEntries,
 }
 
-// How far a description is read: how many tables have begun, how many entries stand in the bodies, the number of the line, and what is wrong in it
-// from which column on.
+// What is wrong in which line, from which column on; both count from 1.
+#[derive(Clone, Copy)]
+pub struct Fault {
+    pub wrong: Wrong,
+    pub line: u64,
+    pub column: u64,
+}
+
+// How far a description is read: how many tables have begun, how many entries stand in the bodies, and the number of the line.
 #[derive(Clone, Copy)]
 pub struct Making {
     pub tables: u64,
     pub entries: u64,
     pub line: u64,
-    pub column: u64,
-    pub wrong: Wrong,
 }
 
 // Before the first line.
@@ -39,14 +42,11 @@ pub fn start() -> Making {
         tables: 0,
         entries: 0,
         line: 0,
-        column: 0,
-        wrong: Wrong::Nothing,
     }
 }
 
 // At the next line.
 fn next_line(m: Making) -> Making {
-    let wrong = m.wrong;
     let mut line = m.line;
     if line < u64::MAX {
         line += 1;
@@ -55,23 +55,19 @@ fn next_line(m: Making) -> Making {
         tables: m.tables,
         entries: m.entries,
         line,
-        column: 0,
-        wrong,
     }
 }
 
-// The same with what is wrong, from the place `at` of the line on; columns count from 1.
-fn at_fault(m: Making, wrong: Wrong, at: usize) -> Making {
+// What is wrong in the line, from its place `at` on.
+fn fault_at(m: Making, wrong: Wrong, at: usize) -> Fault {
     let mut column = at as u64;
     if column < u64::MAX {
         column += 1;
     }
-    Making {
-        tables: m.tables,
-        entries: m.entries,
+    Fault {
+        wrong,
         line: m.line,
         column,
-        wrong,
     }
 }
 
@@ -92,14 +88,12 @@ fn skip(line: &[u8], from: usize) -> usize
     requires { from ≤ length line.now }
     ensures { (from ≤ result) × (result ≤ length line.now) }
 {
-    let mut i = from;
-    while i < line.len() {
+    for i in from..line.len() {
         if !blank(line[i]) {
             return i;
         }
-        i += 1;
     }
-    i
+    line.len()
 }
 
 // The first blank at or after `from`, or the length of the line.
@@ -107,14 +101,12 @@ fn word_end(line: &[u8], from: usize) -> usize
     requires { from ≤ length line.now }
     ensures { (from ≤ result) × (result ≤ length line.now) }
 {
-    let mut i = from;
-    while i < line.len() {
+    for i in from..line.len() {
         if blank(line[i]) {
             return i;
         }
-        i += 1;
     }
-    i
+    line.len()
 }
 
 // The number of four bytes, the highest first.
@@ -130,34 +122,32 @@ fn highest_first(s: &[u8; 8]) -> u64 {
 }
 
 // The number of sixteen hexadecimal digits, the highest first.
-fn bits(word: &[u8]) -> Number {
+fn bits(word: &[u8]) -> Option<u64> {
     if word.len() != 16 {
-        return Number::Bad;
+        return None;
     }
     if !spelling::is_bytes(word) {
-        return Number::Bad;
+        return None;
     }
     let mut eight = [0u8; 8];
     spelling::bytes(word, &mut eight);
-    Number::Is(highest_first(&eight))
+    Some(highest_first(&eight))
 }
 
 // The pattern of a negative number: 2^64 less what is written after the sign, which is 1 to 2^63.
-fn negative(word: &[u8]) -> Number {
-    let Number::Is(n) = text::read_number(word) else {
-        return Number::Bad;
-    };
+fn negative(word: &[u8]) -> Option<u64> {
+    let n = text::read_number(word)?;
     if n == 0 {
-        return Number::Bad;
+        return None;
     }
     if n > 9223372036854775808 {
-        return Number::Bad;
+        return None;
     }
-    Number::Is(u64::MAX - n + 1)
+    Some(u64::MAX - n + 1)
 }
 
 // An entry: a number below 2^64, a negative number down to -2^63, or `0x` and the sixteen digits of its bits.
-pub fn entry(word: &[u8]) -> Number {
+pub fn entry(word: &[u8]) -> Option<u64> {
     if word.len() < 2 {
         return text::read_number(word);
     }
@@ -209,23 +199,20 @@ fn open_table(
     contents: &mut [u8],
     before: &mut [u64; 64],
     lines: &mut [u64; 64],
-) -> Making {
+) -> Result<Making, Fault> {
     let t = m.tables;
     if t >= 64 {
-        return at_fault(m, Wrong::MoreTables, 0);
+        return Err(fault_at(m, Wrong::MoreTables, 0));
     }
     let i = t as usize;
     text::put(contents, 4 + 12 * i, &[family_byte(f), low(k), low(n), 0]);
     before[i] = m.entries;
     lines[i] = m.line;
-    let wrong = m.wrong;
-    Making {
+    Ok(Making {
         tables: t + 1,
         entries: m.entries,
         line: m.line,
-        column: 0,
-        wrong,
-    }
+    })
 }
 
 // The words after the degree of a table, from a place of the line on: an alphabet and nothing more.
@@ -238,20 +225,20 @@ fn take_alphabet(
     contents: &mut [u8],
     before: &mut [u64; 64],
     lines: &mut [u64; 64],
-) -> Making
+) -> Result<Making, Fault>
     requires { from ≤ length line.now }
 {
     let a = skip(line, from);
     let b = word_end(line, a);
-    let Number::Is(n) = text::read_number(&line[a..b]) else {
-        return at_fault(m, Wrong::Alphabet, a);
+    let Some(n) = text::read_number(&line[a..b]) else {
+        return Err(fault_at(m, Wrong::Alphabet, a));
     };
     if n > 64 {
-        return at_fault(m, Wrong::Alphabet, a);
+        return Err(fault_at(m, Wrong::Alphabet, a));
     }
     let c = skip(line, b);
     if c < line.len() {
-        return at_fault(m, Wrong::MoreWords, c);
+        return Err(fault_at(m, Wrong::MoreWords, c));
     }
     open_table(m, f, k, n, contents, before, lines)
 }
@@ -265,16 +252,16 @@ fn take_degree(
     contents: &mut [u8],
     before: &mut [u64; 64],
     lines: &mut [u64; 64],
-) -> Making
+) -> Result<Making, Fault>
     requires { from ≤ length line.now }
 {
     let a = skip(line, from);
     let b = word_end(line, a);
-    let Number::Is(k) = text::read_number(&line[a..b]) else {
-        return at_fault(m, Wrong::Degree, a);
+    let Some(k) = text::read_number(&line[a..b]) else {
+        return Err(fault_at(m, Wrong::Degree, a));
     };
     if k > 64 {
-        return at_fault(m, Wrong::Degree, a);
+        return Err(fault_at(m, Wrong::Degree, a));
     }
     take_alphabet(line, b, m, f, k, contents, before, lines)
 }
@@ -287,54 +274,48 @@ fn take_table(
     contents: &mut [u8],
     before: &mut [u64; 64],
     lines: &mut [u64; 64],
-) -> Making
+) -> Result<Making, Fault>
     requires { from ≤ length line.now }
 {
     let a = skip(line, from);
     let b = word_end(line, a);
-    let Named::Family(f) = text::family(&line[a..b]) else {
-        return at_fault(m, Wrong::Family, a);
+    let Some(f) = text::family(&line[a..b]) else {
+        return Err(fault_at(m, Wrong::Family, a));
     };
     take_degree(line, b, m, f, contents, before, lines)
 }
 
 // One more entry, the word at a place of the line.
-fn take_entry(word: &[u8], at: usize, m: Making, bodies: &mut [u8]) -> Making {
-    let Number::Is(n) = entry(word) else {
-        return at_fault(m, Wrong::Entry, at);
+fn take_entry(word: &[u8], at: usize, m: Making, bodies: &mut [u8]) -> Result<Making, Fault> {
+    let Some(n) = entry(word) else {
+        return Err(fault_at(m, Wrong::Entry, at));
     };
     if m.tables == 0 {
-        return at_fault(m, Wrong::EntryBeforeTable, at);
+        return Err(fault_at(m, Wrong::EntryBeforeTable, at));
     }
     let e = m.entries;
     if e >= 8192 {
-        return at_fault(m, Wrong::MoreEntries, at);
+        return Err(fault_at(m, Wrong::MoreEntries, at));
     }
     put_eight(bodies, 8 * e as usize, n);
-    let wrong = m.wrong;
-    Making {
+    Ok(Making {
         tables: m.tables,
         entries: e + 1,
         line: m.line,
-        column: 0,
-        wrong,
-    }
+    })
 }
 
 // The entries of a line, up to the first that is wrong.
-fn take_entries(line: &[u8], m: Making, bodies: &mut [u8]) -> Making {
+fn take_entries(line: &[u8], m: Making, bodies: &mut [u8]) -> Result<Making, Fault> {
     let mut made = m;
     let mut at = skip(line, 0);
+    // The loop goes from word to word by where each one ends, since a fault names its column: it counts no index.
     while at < line.len() {
         let end = word_end(line, at + 1);
-        made = take_entry(&line[at..end], at, made, bodies);
-        let wrong = made.wrong;
-        let Wrong::Nothing = wrong else {
-            return made;
-        };
+        made = take_entry(&line[at..end], at, made, bodies)?;
         at = skip(line, end);
     }
-    made
+    Ok(made)
 }
 
 // A line without its comment.
@@ -345,7 +326,7 @@ fn take_words(
     bodies: &mut [u8],
     before: &mut [u64; 64],
     lines: &mut [u64; 64],
-) -> Making {
+) -> Result<Making, Fault> {
     let a = skip(line, 0);
     let b = word_end(line, a);
     if check::same(&line[a..b], b"table") {
@@ -354,7 +335,7 @@ fn take_words(
     take_entries(line, m, bodies)
 }
 
-// Takes the next line in; where something was wrong before, nothing changes.
+// Takes the next line in.
 pub fn take_line(
     line: &[u8],
     m: Making,
@@ -362,11 +343,7 @@ pub fn take_line(
     bodies: &mut [u8],
     before: &mut [u64; 64],
     lines: &mut [u64; 64],
-) -> Making {
-    let wrong = m.wrong;
-    let Wrong::Nothing = wrong else {
-        return m;
-    };
+) -> Result<Making, Fault> {
     let end = text::find(line, 0, b'#');
     take_words(&line[0..end], next_line(m), contents, bodies, before, lines)
 }
@@ -403,12 +380,10 @@ fn entries_before(m: Making, before: &[u64; 64], i: u64) -> u64 {
 pub fn close(m: Making, contents: &mut [u8], before: &[u64; 64]) {
     let t = m.tables;
     put_four(contents, 0, t % 4294967296);
-    let mut i = 0u64;
-    while i < t {
+    for i in 0..t {
         let from = entries_before(m, before, i);
         let to = entries_before(m, before, i + 1);
         close_row(contents, i, t, from, to);
-        i += 1;
     }
 }
 
@@ -416,7 +391,6 @@ pub fn close(m: Making, contents: &mut [u8], before: &[u64; 64]) {
 
 fn reason(out: &mut [u8], at: usize, wrong: Wrong) -> usize {
     match wrong {
-        Wrong::Nothing => at,
         Wrong::Family => text::put(out, at, b"a family is forbidden or allowed"),
         Wrong::Degree => text::put(out, at, b"a degree is a number from 0 to 64"),
         Wrong::Alphabet => text::put(out, at, b"an alphabet is a number from 0 to 64"),
@@ -433,9 +407,9 @@ fn reason(out: &mut [u8], at: usize, wrong: Wrong) -> usize {
 }
 
 // What is wrong, after the line and the column where it stands.
-pub fn put_wrong(out: &mut [u8], at: usize, m: Making) -> usize {
-    let at = phrases::with_number(out, at, b"line ", m.line);
-    let at = phrases::around(out, at, b", column ", m.column, b": ");
-    let wrong = m.wrong;
+pub fn put_fault(out: &mut [u8], at: usize, fault: Fault) -> usize {
+    let at = phrases::with_number(out, at, b"line ", fault.line);
+    let at = phrases::around(out, at, b", column ", fault.column, b": ");
+    let wrong = fault.wrong;
     reason(out, at, wrong)
 }

@@ -4,16 +4,13 @@
 --   number_says l F k    11, 12; the number of the row
 --   table_at l i    what row i names: the alphabet, the place of the body and the number of entries
 --   row_says l F k    11, 12; the table
---   found_says    what each case of an answer means
 use Rattle.std.specs.Prelude.{List, ◌&&◌, ℕ, zero, suc, eqb}
 use Rattle.words.specs.declared.Family.{Family}
 use Rattle.words.specs.declared.Family.TheVariants.{Forbidden, Allowed}
 use Rattle.words.specs.Pick.{pick}
-use Rattle.answers.specs.Says.{Says, refuses_with, refuses, gives, and_then, number_of, carried_by}
+use Rattle.answers.specs.Says.{Says, refuses, gives, and_then}
 use Rattle.image_rules.specs.Image.{family_at, degree_at, alphabet_at, offset_at, entries_at, image_says}
 use Rattle.image_reading.specs.declared.Table.{Table}
-use Rattle.image_reading.specs.declared.Found.{Found}
-use Rattle.image_reading.specs.declared.Found.TheVariants as found
 
 abbrev pub number_of_family : Family → ℕ
 number_of_family Forbidden = 0
@@ -31,7 +28,3 @@ table_at l i = record { alphabet = alphabet_at l i; offset = offset_at l i; entr
 
 abbrev pub row_says : List ℕ → Family → ℕ → Says Table
 row_says l F k = and_then (number_says l F k) (λ i. gives (table_at l i))
-
-abbrev pub found_says : Found → Says Table
-found_says (found.At t) = gives t
-found_says (found.Refused e) = refuses_with (number_of e) (carried_by e)

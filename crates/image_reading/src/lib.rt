@@ -3,9 +3,9 @@
 
 ghost use Rattle.std.specs.Prelude.{◌≡◌, ◌+◌, ◌*◌, ◌≤◌, length};
 ghost use Rattle.answers.specs.Says.{answer_says};
-ghost use Rattle.image_reading.specs.Reading.{number_of_family, find_row, number_says, table_at, row_says, found_says};
+ghost use Rattle.image_reading.specs.Reading.{number_of_family, find_row, number_says, table_at, row_says};
 
-use answers::{Answer, Refusal};
+use answers::Refusal;
 use little_endian::{four, wide};
 use words::Family;
 
@@ -15,13 +15,6 @@ pub struct Table {
     pub alphabet: u64,
     pub offset: u64,
     pub entries: u64,
-}
-
-// A table, or why there is none.
-#[derive(Clone, Copy)]
-pub enum Found {
-    At(Table),
-    Refused(Refusal),
 }
 
 // The byte that stands for a family: 0 Forbidden, 1 Allowed.
@@ -35,31 +28,27 @@ fn number_of(family: Family) -> u64
 }
 
 // The row, of the first t, that has the family f and the degree k: 12 if none has.
-pub fn find(s: &[u8], t: u64, f: u64, k: u64) -> Answer
+pub fn find(s: &[u8], t: u64, f: u64, k: u64) -> Result<u64, Refusal>
     requires { (t ≤ 64) × (4 + 12 * t ≤ length s.now) }
     ensures { answer_says result ≡ find_row s.now f k t }
 {
-    let mut i = t;
-    while 0 < i {
-        i -= 1;
+    for i in (0..t).rev() {
         let j = (4 + 12 * i) as usize;
         if wide(s[j]) == f {
             if wide(s[j + 1]) == k {
-                return Answer::Is(i);
+                return Ok(i);
             }
         }
     }
-    Answer::Refused(Refusal::NoSuchTable)
+    Err(Refusal::NoSuchTable)
 }
 
 // The number of the row of a family and a degree: 11 for a bad image, 12 if no table has them.
-fn numbered(image: &[u8], family: Family, k: u64) -> Answer
+fn numbered(image: &[u8], family: Family, k: u64) -> Result<u64, Refusal>
     ensures { answer_says result ≡ number_says image.now family k }
 {
-    match image_check::check(image) {
-        Answer::Refused(e) => Answer::Refused(e),
-        Answer::Is(t) => find(image, t, number_of(family), k),
-    }
+    let t = image_check::check(image)?;
+    find(image, t, number_of(family), k)
 }
 
 // The table that row i names.
@@ -80,11 +69,9 @@ fn named(s: &[u8], i: u64) -> Table
 }
 
 // The table of a family and a degree, which may be any number: 11 for a bad image, 12 if no table has them.
-pub fn row(image: &[u8], family: Family, k: u64) -> Found
-    ensures { found_says result ≡ row_says image.now family k }
+pub fn row(image: &[u8], family: Family, k: u64) -> Result<Table, Refusal>
+    ensures { answer_says result ≡ row_says image.now family k }
 {
-    match numbered(image, family, k) {
-        Answer::Refused(e) => Found::Refused(e),
-        Answer::Is(i) => Found::At(named(image, i)),
-    }
+    let i = numbered(image, family, k)?;
+    Ok(named(image, i))
 }

@@ -7,7 +7,7 @@ ghost use Rattle.little_endian.specs.Bytes.{number_at};
 ghost use Rattle.image_rules.specs.Image.{family_of_byte, fields_at, judged};
 ghost use Rattle.image_row.specs.Steps.{Covers, marked, body_fields, words_fields};
 
-use answers::{Answer, Refusal};
+use answers::Refusal;
 use little_endian::{four, wide};
 use words::Family;
 
@@ -22,14 +22,14 @@ fn family_of(b: u64) -> Family
 }
 
 // A bad image, with the offset that it is charged to.
-pub fn bad(at: u64) -> Answer
+pub fn bad(at: u64) -> Result<u64, Refusal>
     ensures { answer_says result ≡ refuses_at 11 at }
 {
-    Answer::Refused(Refusal::BadImage(at))
+    Err(Refusal::BadImage(at))
 }
 
 // The offset and the number of entries of the row at `at`, which has as many words as `words` says: the number of entries.
-fn row_body(s: &[u8], size: u64, at: u64, place: u64, words: u64) -> Answer
+fn row_body(s: &[u8], size: u64, at: u64, place: u64, words: u64) -> Result<u64, Refusal>
     requires { Covers (length s.now) size × (at + 12 ≤ 772) × (place ≤ 65536) }
     ensures { answer_says result ≡ judged size (body_fields s.now at place words) (gives (number_at s.now (at + 8) 4)) }
 {
@@ -52,11 +52,11 @@ fn row_body(s: &[u8], size: u64, at: u64, place: u64, words: u64) -> Answer
     if 65536 < place + 8 * c {
         return bad(at + 8);
     }
-    Answer::Is(c)
+    Ok(c)
 }
 
 // The alphabet, the zero byte and what stands behind them in the row at `at`, which has the family f and the degree k.
-fn row_words(s: &[u8], size: u64, at: u64, place: u64, f: u64, k: u64) -> Answer
+fn row_words(s: &[u8], size: u64, at: u64, place: u64, f: u64, k: u64) -> Result<u64, Refusal>
     requires { Covers (length s.now) size × (at + 12 ≤ 772) × (place ≤ 65536) × (k ≤ 64) }
     ensures { answer_says result ≡ judged size (words_fields s.now at place f k) (gives (number_at s.now (at + 8) 4)) }
 {
@@ -80,7 +80,7 @@ fn row_words(s: &[u8], size: u64, at: u64, place: u64, f: u64, k: u64) -> Answer
 }
 
 // The fields of the row at `at`, whose body has to start at `place`: the number of entries. The marks are those of the families and degrees of the rows before it.
-pub fn row(s: &[u8], size: u64, at: u64, place: u64, used: &[bool; 130]) -> Answer
+pub fn row(s: &[u8], size: u64, at: u64, place: u64, used: &[bool; 130]) -> Result<u64, Refusal>
     requires { Covers (length s.now) size × (at + 12 ≤ 772) × (place ≤ 65536) }
     ensures { answer_says result ≡ judged size (fields_at s.now at place (marked used.now)) (gives (number_at s.now (at + 8) 4)) }
 {

@@ -5,7 +5,6 @@
 ghost use Rattle.std.specs.Prelude.{◌≡◌, ◌≤◌, ◌<◌, length, get_or};
 ghost use Rattle.image_text.specs.Place.{Falls};
 
-use answers::Answer;
 use words::Family;
 
 // Where an offset falls: in the number of tables, in a row of the contents list at so many bytes from its beginning, or behind the list.
@@ -109,14 +108,12 @@ fn same_above(list: &[u8], i: u64) -> u64 {
     let at = row_place(i);
     let f = byte(list, at);
     let k = byte(list, at + 1);
-    let mut j = 0u64;
-    while j < 64 {
+    for j in 0..64 {
         if byte(list, row_place(j)) == f {
             if byte(list, row_place(j) + 1) == k {
                 return j;
             }
         }
-        j += 1;
     }
     i
 }
@@ -172,7 +169,7 @@ fn put_right(out: &mut [u8], at: usize, n: u64) -> usize {
 fn put_term(out: &mut [u8], at: usize, r: Table, rank: u64) -> usize {
     let mut word = [0u64; 64];
     let f = r.family;
-    let Answer::Is(k) = monotone_unrank::unrank(f, r.alphabet, r.degree, rank, &mut word) else {
+    let Ok(k) = monotone_unrank::unrank(f, r.alphabet, r.degree, rank, &mut word) else {
         return at;
     };
     terms_answer::put_symbols(out, at, &word, k)
@@ -225,10 +222,8 @@ fn put_table(out: &mut [u8], at: usize, list: &[u8], i: u64) -> usize {
 // The lines of the tables.
 fn put_tables(out: &mut [u8], at: usize, list: &[u8], tables: u64) -> usize {
     let mut to = at;
-    let mut i = 0u64;
-    while i < tables {
+    for i in 0..tables {
         to = put_table(out, to, list, i);
-        i += 1;
     }
     to
 }
@@ -320,7 +315,7 @@ fn put_offset(out: &mut [u8], at: usize, offset: u64, wanted: u64) -> usize {
 // The number of terms that the table of a row has, by the library's count; 0 where that is refused.
 fn terms_of(r: Table) -> u64 {
     let f = r.family;
-    let Answer::Is(c) = monotone_count::count(f, r.alphabet, r.degree) else {
+    let Ok(c) = monotone_count::count(f, r.alphabet, r.degree) else {
         return 0;
     };
     c

@@ -6,9 +6,9 @@ mod images; // images.rt: imagecheck, imagerow, imagelookup, imagewrite
 mod records; // records.rt: recordcheck, recordrow, recordlookup
 mod uplinks; // uplinks.rt: pieces
 
-use answers::{Answer, Index};
-use image_reading::Found;
-use replies::Reply;
+use answers::Index;
+use image_reading::Table;
+use replies::{Answered, Reply};
 
 // The index whose family, alphabet and bits are the words at the three places.
 fn index(line: &[u8], from: usize, f: usize, n: usize, b: usize) -> Index {
@@ -20,22 +20,17 @@ fn index(line: &[u8], from: usize, f: usize, n: usize, b: usize) -> Index {
 }
 
 // The reply that gives a row of the contents: its numbers are written into the first places.
-fn give(found: Found, places: &mut [u64]) -> Reply {
-    match found {
-        Found::At(t) => {
-            if places.len() < 3 {
-                return Reply::Bad;
-            }
-            places[0] = t.alphabet;
-            places[1] = t.offset;
-            places[2] = t.entries;
-            Reply::Places(Answer::Is(3))
-        }
-        Found::Refused(e) => Reply::Places(Answer::Refused(e)),
+fn give(row: Table, places: &mut [u64]) -> Answered {
+    if places.len() < 3 {
+        return Ok(None);
     }
+    places[0] = row.alphabet;
+    places[1] = row.offset;
+    places[2] = row.entries;
+    Ok(Some(Reply::Places(3)))
 }
 
-// The answer by the group that knows the verb; bad if none does. The words after the verb begin at place `from` of the line.
+// The answer by the group that knows the verb; none if no group does. The words after the verb begin at place `from` of the line.
 pub fn reply(
     verb: &[u8],
     line: &[u8],
@@ -43,18 +38,15 @@ pub fn reply(
     bytes: &mut [u8],
     lent: &mut [u8],
     places: &mut [u64],
-) -> Reply {
-    let r = images::of_image(verb, line, from, bytes, places);
-    let Reply::Bad = r else {
-        return r;
-    };
-    let r = images::of_parts(verb, line, from, bytes, lent);
-    let Reply::Bad = r else {
-        return r;
-    };
-    let r = records::of_record(verb, line, from, bytes, places);
-    let Reply::Bad = r else {
-        return r;
-    };
+) -> Answered {
+    if let Some(r) = images::of_image(verb, line, from, bytes, places)? {
+        return Ok(Some(r));
+    }
+    if let Some(r) = images::of_parts(verb, line, from, bytes, lent)? {
+        return Ok(Some(r));
+    }
+    if let Some(r) = records::of_record(verb, line, from, bytes, places)? {
+        return Ok(Some(r));
+    }
     uplinks::of_pieces(verb, line, from, bytes)
 }

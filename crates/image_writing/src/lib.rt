@@ -7,11 +7,11 @@ ghost use Rattle.answers.specs.Says.{answer_says, places_of, after};
 ghost use Rattle.image_rules.specs.Image.{image_says};
 ghost use Rattle.image_writing.specs.Writing.{write_says};
 
-use answers::{Answer, Refusal};
+use answers::Refusal;
 use pieces::Verdict;
 
 // The check of the two joined: they are two pieces.
-fn joined(contents: &[u8], bodies: &[u8]) -> Answer
+fn joined(contents: &[u8], bodies: &[u8]) -> Result<u64, Refusal>
     ensures { answer_says result ≡ image_says (contents.now ++ bodies.now) }
 {
     let first = pieces::feed(pieces::start(), contents);
@@ -19,9 +19,9 @@ fn joined(contents: &[u8], bodies: &[u8]) -> Answer
     let last = pieces::end(both);
     let verdict = last.verdict;
     match verdict {
-        Verdict::Good(t) => Answer::Is(t),
-        Verdict::Bad(at) => Answer::Refused(Refusal::BadImage(at)),
-        Verdict::Open => Answer::Refused(Refusal::BadImage(0)),
+        Verdict::Good(t) => Ok(t),
+        Verdict::Bad(at) => Err(Refusal::BadImage(at)),
+        Verdict::Open => Err(Refusal::BadImage(0)),
     }
 }
 
@@ -30,32 +30,26 @@ fn put(src: &[u8], dst: &mut [u8], at: usize)
     requires { at + length src.now ≤ length dst.old }
     ensures { dst.new ≡ paste dst.old at src.now (length src.now) }
 {
-    let mut i = 0;
-    while i < src.len() {
-        dst[at + i] = src[i];
-        i += 1;
+    for (i, x) in src.iter().enumerate() {
+        dst[at + i] = *x;
     }
 }
 
 // Writes the image: 11 just where the reader refuses the two joined; 8 if the output is too short. The answer is how many bytes are written.
-pub fn write(contents: &[u8], bodies: &[u8], out: &mut [u8]) -> Answer
+pub fn write(contents: &[u8], bodies: &[u8], out: &mut [u8]) -> Result<u64, Refusal>
     ensures says { answer_says result ≡ places_of (write_says contents.now bodies.now (length out.old)) }
     ensures holds { out.new ≡ after (write_says contents.now bodies.now (length out.old)) out.old }
 {
-    match joined(contents, bodies) {
-        Answer::Refused(e) => Answer::Refused(e),
-        Answer::Is(_) => {
-            let n = contents.len();
-            let m = bodies.len();
-            if out.len() < n {
-                return Answer::Refused(Refusal::Shape);
-            }
-            if out.len() - n < m {
-                return Answer::Refused(Refusal::Shape);
-            }
-            put(contents, out, 0);
-            put(bodies, out, n);
-            Answer::Is((n + m) as u64)
-        }
+    joined(contents, bodies)?;
+    let n = contents.len();
+    let m = bodies.len();
+    if out.len() < n {
+        return Err(Refusal::Shape);
     }
+    if out.len() - n < m {
+        return Err(Refusal::Shape);
+    }
+    put(contents, out, 0);
+    put(bodies, out, n);
+    Ok((n + m) as u64)
 }

@@ -4,14 +4,13 @@
 
 ghost use Rattle.std.specs.Prelude.{◌≡◌, ◌≤◌, ◌<◌, length};
 
-use answers::{Answer, Index, Indexed, Refusal};
-use image_description::{Making, Wrong};
+use answers::{Index, Refusal};
+use image_description::{Fault, Making};
 use image_text::Place;
 use pieces::{Pieces, Verdict};
 use std::env::{Env, FillError};
 use std::io;
 use std::process::ExitCode;
-use text::{Named, Number};
 use words::Family;
 
 // A text in the first places of a lent buffer, and whether it is of something good.
@@ -67,18 +66,16 @@ fn feed_some(rt: &impl Input, p: Pieces, block: &mut [u8]) -> io::Result<Fed> {
     Ok(Fed { state, more: true })
 }
 
-// The state after all of the input. Nothing says that an input ends, so the pieces are counted down from a number that no run uses up.
+// The state after all of the input. Nothing says that an input ends, so the pieces are counted up to a number that no run reaches.
 fn judged(rt: &impl Input, block: &mut [u8]) -> io::Result<Pieces> {
     let mut p = pieces::start();
-    let mut turns = u64::MAX;
-    while turns > 0 {
+    for _ in 0..u64::MAX {
         let fed = feed_some(rt, p, block)?;
         let state = fed.state;
         if !fed.more {
             return Ok(state);
         }
         p = state;
-        turns -= 1;
     }
     Ok(p)
 }
@@ -91,25 +88,33 @@ fn check_input(rt: &impl Input, out: &mut [u8]) -> io::Result<Told> {
 
 // ---- make
 
-// Takes the lines of a description in.
+// Takes the lines of a description in, up to the first in which something is wrong.
 fn take_lines(
     description: &[u8],
     contents: &mut [u8],
     bodies: &mut [u8],
     before: &mut [u64; 64],
     lines: &mut [u64; 64],
-) -> Making {
+) -> Result<Making, Fault> {
     let mut m = image_description::start();
     let mut at = 0;
+    // The loop goes from line to line by where each one ends: what a split gives is one line more after the last newline.
     while at < description.len() {
         let end = text::find(description, at, b'\n');
-        m = image_description::take_line(&description[at..end], m, contents, bodies, before, lines);
+        m = image_description::take_line(
+            &description[at..end],
+            m,
+            contents,
+            bodies,
+            before,
+            lines,
+        )?;
         at = end;
         if at < description.len() {
             at += 1;
         }
     }
-    m
+    Ok(m)
 }
 
 // The line of a description in which the table of an offset begins, or 0.
@@ -152,16 +157,12 @@ fn put_refused(
 // The image of a description that was taken in: written by the library, which judges it, or what is wrong.
 fn write(out: &mut [u8], m: Making, contents: &[u8], bodies: &[u8], lines: &[u64; 64]) -> Told {
     match image_writing::write(contents, bodies, out) {
-        Answer::Is(n) => Told {
+        Ok(n) => Told {
             good: true,
             end: n as usize,
         },
-        Answer::Refused(e) => {
-            if answers::number(e) == 8 {
-                return bad(text::put(out, 0, b"the image would pass 65536 bytes\n"));
-            }
-            bad(put_refused(out, contents, m, lines, answers::place(e)))
-        }
+        Err(Refusal::Shape) => bad(text::put(out, 0, b"the image would pass 65536 bytes\n")),
+        Err(e) => bad(put_refused(out, contents, m, lines, answers::place(e))),
     }
 }
 
@@ -173,11 +174,6 @@ fn write_made(
     bodies: &[u8],
     lines: &[u64; 64],
 ) -> Told {
-    let wrong = m.wrong;
-    let Wrong::Nothing = wrong else {
-        let at = image_description::put_wrong(out, 0, m);
-        return bad(text::put_byte(out, at, b'\n'));
-    };
     let t = m.tables;
     let e = m.entries;
     if t > 64 {
@@ -197,21 +193,32 @@ fn write_made(
     write(out, m, &contents[0..c], &bodies[0..d], lines)
 }
 
+// The line of a description in which something is wrong.
+fn put_fault(out: &mut [u8], fault: Fault) -> usize {
+    let at = image_description::put_fault(out, 0, fault);
+    text::put_byte(out, at, b'\n')
+}
+
 // The image that a description asks for, or what is wrong with it.
 pub fn put_made(out: &mut [u8], description: &[u8]) -> Told {
     let mut contents = [0u8; 772];
     let mut bodies = [0u8; 65536];
     let mut before = [0u64; 64];
     let mut lines = [0u64; 64];
-    let m = take_lines(
+    let made = take_lines(
         description,
         &mut contents,
         &mut bodies,
         &mut before,
         &mut lines,
     );
-    image_description::close(m, &mut contents, &before);
-    write_made(out, m, &contents, &bodies, &lines)
+    match made {
+        Ok(m) => {
+            image_description::close(m, &mut contents, &before);
+            write_made(out, m, &contents, &bodies, &lines)
+        }
+        Err(fault) => bad(put_fault(out, fault)),
+    }
 }
 
 // 262,144 zeros: more than the longest image takes as text.
@@ -242,14 +249,14 @@ fn put_coefficient(out: &mut [u8], c: u64) -> usize {
 
 // Why a term is not there.
 fn put_missing(out: &mut [u8], image: &[u8], e: Refusal) -> usize {
-    match answers::number(e) {
-        3 => text::put(
+    match e {
+        Refusal::NoSuchRank => text::put(
             out,
             0,
             b"the term uses a symbol that the table does not have\n",
         ),
-        11 => put_bad(out, 0, image, image.len() as u64, answers::place(e)),
-        12 => text::put(
+        Refusal::BadImage(at) => put_bad(out, 0, image, image.len() as u64, at),
+        Refusal::NoSuchTable => text::put(
             out,
             0,
             b"the image has no table of this family and degree\n",
@@ -265,11 +272,11 @@ fn put_missing(out: &mut [u8], image: &[u8], e: Refusal) -> usize {
 // The coefficient of a term in an image, or why there is none.
 fn put_looked_up(out: &mut [u8], image: &[u8], x: Index) -> Told {
     match image_lookup::lookup(image, x) {
-        Answer::Is(c) => Told {
+        Ok(c) => Told {
             good: true,
             end: put_coefficient(out, c),
         },
-        Answer::Refused(e) => bad(put_missing(out, image, e)),
+        Err(e) => bad(put_missing(out, image, e)),
     }
 }
 
@@ -291,10 +298,10 @@ fn widest(f: Family, k: u64) -> u64 {
 
 // Why a word is no term.
 fn put_no_term(out: &mut [u8], e: Refusal) -> usize {
-    match answers::number(e) {
-        2 => {
+    match e {
+        Refusal::NotMonotone(i) => {
             let at = text::put(out, 0, b"symbol number ");
-            let at = text::put_number(out, at, answers::place(e));
+            let at = text::put_number(out, at, i);
             text::put(
                 out,
                 at,
@@ -312,8 +319,8 @@ fn put_no_term(out: &mut [u8], e: Refusal) -> usize {
 // The coefficient of a term, given by its symbols.
 pub fn put_term(out: &mut [u8], f: Family, word: &[u64], image: &[u8]) -> Told {
     match monotone::pack(f, widest(f, word.len() as u64), word) {
-        Indexed::At(x) => put_looked_up(out, image, x),
-        Indexed::Refused(e) => bad(put_no_term(out, e)),
+        Ok(x) => put_looked_up(out, image, x),
+        Err(e) => bad(put_no_term(out, e)),
     }
 }
 
@@ -338,25 +345,23 @@ fn argument(rt: &impl Env, i: usize, buffer: &mut [u8]) -> usize
 // How many arguments there are, the program's name among them.
 fn argument_count(rt: &impl Env) -> usize {
     let mut start = [0u8; 1];
-    let mut i = 0;
-    while i < usize::MAX {
+    for i in 0..usize::MAX {
         if let Err(FillError::NotPresent) = rt.arg(i, &mut start) {
             return i;
         }
-        i += 1;
     }
-    i
+    usize::MAX
 }
 
 // The number that argument i of the program writes.
-fn number(rt: &impl Env, i: usize) -> Number {
+fn number(rt: &impl Env, i: usize) -> Option<u64> {
     let mut word = [0u8; 4096];
     let n = argument(rt, i, &mut word);
     text::read_number(&word[..n])
 }
 
 // The family that argument i names.
-fn family(rt: &impl Env, i: usize) -> Named {
+fn family(rt: &impl Env, i: usize) -> Option<Family> {
     let mut word = [0u8; 4096];
     let n = argument(rt, i, &mut word);
     text::family(&word[..n])
@@ -370,11 +375,11 @@ fn take_symbol(rt: &impl Env, word: &mut [u64], i: usize) -> bool
         return false;
     }
     match number(rt, 3 + i) {
-        Number::Is(s) => {
+        Some(s) => {
             word[i] = s;
             true
         }
-        Number::Bad => false,
+        None => false,
     }
 }
 
@@ -382,12 +387,10 @@ fn take_symbol(rt: &impl Env, word: &mut [u64], i: usize) -> bool
 fn symbols(rt: &impl Env, word: &mut [u64], n: usize) -> bool
     requires { n ≤ 64 }
 {
-    let mut i = 0;
-    while i < n {
+    for i in 0..n {
         if !take_symbol(rt, word, i) {
             return false;
         }
-        i += 1;
     }
     true
 }
@@ -397,7 +400,7 @@ fn look_up(rt: &(impl Input + Env), out: &mut [u8], arguments: usize) -> io::Res
         return Ok(usage(out));
     }
     let n = arguments - 3;
-    let Named::Family(f) = family(rt, 2) else {
+    let Some(f) = family(rt, 2) else {
         return Ok(usage(out));
     };
     if n > 64 {

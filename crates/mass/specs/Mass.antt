@@ -4,17 +4,14 @@
 --   finite_says l s    of a sample on a surface: 14 unless both readings, every entry and the mass are finite; the mass
 --   sample_says l s    11, with its offset; 7 if a table has another family or alphabet; 14; the mass
 --   mass_says l f p g t    13, then these
---   joined_says, massed_says    what each case of an answer means
-use Rattle.std.specs.Prelude.{Bool, not, List, [], ◌∷◌, ◌++◌, ℕ, eqb, Float}
+--   framed_says r    what the result of a call means: a value, or why there is none and the frame
+use Rattle.std.specs.Prelude.{Result, Ok, Err, Bool, not, List, [], ◌∷◌, ◌++◌, ℕ, eqb, Float}
 use Rattle.answers.specs.Says.{Says, refuses_with, gives, refused_if, and_then, number_of, carried_by}
 use Rattle.image_rules.specs.Image.{image_says}
 use Rattle.surface.specs.Mass.{mass_of}
 use Rattle.surface.specs.Surface.{surface_of, some_other, all_finite}
 use Rattle.mass.specs.declared.Sample.{Sample}
-use Rattle.mass.specs.declared.Joined.{Joined}
-use Rattle.mass.specs.declared.Joined.TheVariants as joined
-use Rattle.mass.specs.declared.Massed.{Massed}
-use Rattle.mass.specs.declared.Massed.TheVariants as massed
+use Rattle.mass.specs.declared.FrameRefusal.{FrameRefusal}
 
 abbrev pub framed : {A : Type 0} → ℕ → Says A → Says A
 framed f (refuses_with e c) = refuses_with e (c ++ f ∷ [])
@@ -35,12 +32,8 @@ sample_says l s = framed s.frame (and_then (image_says l) (λ n. refused_if (som
 abbrev pub mass_says : List ℕ → ℕ → Float → ℕ → Float → Says Float
 mass_says l f p g t = and_then (join_says f p g t) (λ s. sample_says l s)
 
--- ---- what each case of an answer means
+-- ---- what the result of a call means
 
-abbrev pub joined_says : Joined → Says Sample
-joined_says (joined.One s) = gives s
-joined_says (joined.Refused e f) = refuses_with (number_of e) (carried_by e ++ f ∷ [])
-
-abbrev pub massed_says : Massed → Says Float
-massed_says (massed.Is m) = gives m
-massed_says (massed.Refused e f) = refuses_with (number_of e) (carried_by e ++ f ∷ [])
+abbrev pub framed_says : {A : Type 0} → Result A FrameRefusal → Says A
+framed_says (Ok a) = gives a
+framed_says (Err e) = refuses_with (number_of e.refusal) (carried_by e.refusal ++ e.frame ∷ [])

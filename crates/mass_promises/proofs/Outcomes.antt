@@ -5,6 +5,7 @@
 --   mass_is_of_one_frame    a mass that is given is that of two readings of one frame on a surface, by the sequence of rounded operations, and so are its bits
 --   refusal_names_the_frame    every refusal names the pressure's frame last, and unless it is 13 the temperature's too
 --   one_join, one_mass    no second outcome: two answers that say the same are the same
+use Rattle.std.specs.Prelude.{Result, Ok, Err}
 use mathlib.Core.Path.{◌≡◌, refl, sym, ap, ap₂, ◌∙◌}
 use mathlib.Core.Bool.{Bool, true, false, not}
 use mathlib.Core.Logic.{◌↔◌}
@@ -24,11 +25,8 @@ use Rattle.image_rules.proofs.Local.{Shape, good, bad, check_shape}
 use Rattle.surface.specs.Mass.{mass_of}
 use Rattle.surface.specs.Surface.{surface_of, some_other, all_finite, Surface}
 use Rattle.mass.specs.declared.Sample.{Sample}
-use Rattle.mass.specs.declared.Joined.{Joined}
-use Rattle.mass.specs.declared.Joined.TheVariants as joined
-use Rattle.mass.specs.declared.Massed.{Massed}
-use Rattle.mass.specs.declared.Massed.TheVariants as massed
-use Rattle.mass.specs.Mass.{framed, join_says, judged_says, mass_says, joined_says, massed_says}
+use Rattle.mass.specs.declared.FrameRefusal.{FrameRefusal}
+use Rattle.mass.specs.Mass.{framed, join_says, judged_says, mass_says, framed_says}
 
 -- ---- a join
 
@@ -163,14 +161,16 @@ end_same (x ∷ c) (y ∷ d) f g e =
 refused_once : (d e : Refusal) (f g : ℕ) → number_of d ≡ number_of e → carried_by d ++ f ∷ [] ≡ carried_by e ++ g ∷ [] → (d ≡ e) × (f ≡ g)
 refused_once d e f g n c = let r = end_same (carried_by d) (carried_by e) f g c in (one_refusal d e n r.0, r.1)
 
-pub one_mass : (a b : Massed) → massed_says a ≡ massed_says b → a ≡ b
-one_mass (massed.Is x) (massed.Is y) e = ap massed.Is (gives_same x y e)
-one_mass (massed.Is x) (massed.Refused d f) e = absurd (gives_never x (number_of d) (carried_by d ++ f ∷ []) e)
-one_mass (massed.Refused d f) (massed.Is y) e = absurd (gives_never y (number_of d) (carried_by d ++ f ∷ []) (sym e))
-one_mass (massed.Refused d f) (massed.Refused h g) e = let r = refused_once d h f g (cc) (cc) in ap₂ massed.Refused r.0 r.1
+one_framed : {A : Type 0} (a b : Result A FrameRefusal) → framed_says a ≡ framed_says b → a ≡ b
+one_framed (Ok x) (Ok y) e = ap Ok (gives_same x y e)
+one_framed (Ok x) (Err d) e = absurd (gives_never x (number_of d.refusal) (carried_by d.refusal ++ d.frame ∷ []) e)
+one_framed (Err d) (Ok y) e = absurd (gives_never y (number_of d.refusal) (carried_by d.refusal ++ d.frame ∷ []) (sym e))
+one_framed (Err d) (Err h) e =
+    let r = refused_once d.refusal h.refusal d.frame h.frame (cc) (cc) in
+    ap₂ (λ (x : Refusal) (f : ℕ). Err (record { refusal = x; frame = f })) r.0 r.1
 
-pub one_join : (a b : Joined) → joined_says a ≡ joined_says b → a ≡ b
-one_join (joined.One x) (joined.One y) e = ap joined.One (gives_same x y e)
-one_join (joined.One x) (joined.Refused d f) e = absurd (gives_never x (number_of d) (carried_by d ++ f ∷ []) e)
-one_join (joined.Refused d f) (joined.One y) e = absurd (gives_never y (number_of d) (carried_by d ++ f ∷ []) (sym e))
-one_join (joined.Refused d f) (joined.Refused h g) e = let r = refused_once d h f g (cc) (cc) in ap₂ joined.Refused r.0 r.1
+pub one_mass : (a b : Result Float FrameRefusal) → framed_says a ≡ framed_says b → a ≡ b
+one_mass a b e = one_framed a b e
+
+pub one_join : (a b : Result Sample FrameRefusal) → framed_says a ≡ framed_says b → a ≡ b
+one_join a b e = one_framed a b e

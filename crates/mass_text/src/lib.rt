@@ -4,54 +4,43 @@
 
 use answers::Refusal;
 use little_endian::wide;
-use mass::Massed;
-use text::Number;
-
-// What a word says as a reading.
-#[derive(Clone, Copy)]
-pub enum Real {
-    Is(f64),
-    Bad,
-}
+use mass::FrameRefusal;
 
 // What a line says: two readings, each with its frame.
 #[derive(Clone, Copy)]
-pub enum Line {
-    Frames(u64, f64, u64, f64),
-    Bad,
+pub struct Frames {
+    pub pressure_frame: u64,
+    pub pressure: f64,
+    pub temperature_frame: u64,
+    pub temperature: f64,
 }
 
 // ---- readings
 
 // The number that digits write behind those of n, where it is at most 2^53: every such number is a float.
-fn digits(n: u64, text: &[u8]) -> Number {
+fn digits(n: u64, text: &[u8]) -> Option<u64> {
     let mut m = n;
-    let mut i = 0;
-    while i < text.len() {
-        let b = text[i];
-        if b < b'0' {
-            return Number::Bad;
+    for b in text {
+        if *b < b'0' {
+            return None;
         }
-        if b > b'9' {
-            return Number::Bad;
+        if *b > b'9' {
+            return None;
         }
-        let d = wide(b) - 48;
+        let d = wide(*b) - 48;
         if m > (9007199254740992 - d) / 10 {
-            return Number::Bad;
+            return None;
         }
         m = m * 10 + d;
-        i += 1;
     }
-    Number::Is(m)
+    Some(m)
 }
 
 // Ten to the power k, which is a float for every k up to 22.
 fn ten_to(k: usize) -> f64 {
     let mut power = 1.0;
-    let mut i: usize = 0;
-    while i < k {
+    for _ in 0..k {
         power = power * 10.0;
-        i += 1;
     }
     power
 }
@@ -62,66 +51,52 @@ fn scaled(n: u64, k: usize) -> f64 {
 }
 
 // A number with a point at place p: at most 22 digits behind it.
-fn with_point(word: &[u8], p: usize) -> Real {
+fn with_point(word: &[u8], p: usize) -> Option<f64> {
     if p >= word.len() {
-        return Real::Bad;
+        return None;
     }
     let places = word.len() - p - 1;
     if places == 0 {
-        return Real::Bad;
+        return None;
     }
     if places > 22 {
-        return Real::Bad;
+        return None;
     }
-    let Number::Is(whole) = digits(0, &word[0..p]) else {
-        return Real::Bad;
-    };
-    match digits(whole, &word[p + 1..]) {
-        Number::Is(n) => Real::Is(scaled(n, places)),
-        Number::Bad => Real::Bad,
-    }
+    let whole = digits(0, &word[0..p])?;
+    let n = digits(whole, &word[p + 1..])?;
+    Some(scaled(n, places))
 }
 
 // A decimal number without a sign: digits, and perhaps a point and more digits.
-fn unsigned(word: &[u8]) -> Real {
+fn unsigned(word: &[u8]) -> Option<f64> {
     let p = text::find(word, 0, b'.');
     if p == 0 {
-        return Real::Bad;
+        return None;
     }
     if p < word.len() {
         return with_point(word, p);
     }
-    match digits(0, word) {
-        Number::Is(n) => Real::Is(scaled(n, 0)),
-        Number::Bad => Real::Bad,
-    }
+    let n = digits(0, word)?;
+    Some(scaled(n, 0))
 }
 
-fn decimal(word: &[u8]) -> Real {
+fn decimal(word: &[u8]) -> Option<f64> {
     if word.len() == 0 {
-        return Real::Bad;
+        return None;
     }
     if word[0] != b'-' {
         return unsigned(word);
     }
-    match unsigned(&word[1..]) {
-        Real::Is(x) => Real::Is(-x),
-        Real::Bad => Real::Bad,
-    }
+    let x = unsigned(&word[1..])?;
+    Some(-x)
 }
 
 // The reading that a word writes.
-pub fn reading(word: &[u8]) -> Real {
+pub fn reading(word: &[u8]) -> Option<f64> {
     if word.len() == 18 {
         if check::same(&word[0..2], b"0x") {
-            match float_text::read(&word[2..]) {
-                Number::Is(b) => {
-                    return Real::Is(rounded::of_bits(b));
-                }
-                Number::Bad => {
-                    return Real::Bad;
-                }
-            }
+            let b = float_text::read(&word[2..])?;
+            return Some(rounded::of_bits(b));
         }
     }
     decimal(word)
@@ -130,41 +105,38 @@ pub fn reading(word: &[u8]) -> Real {
 // ---- a line
 
 // A temperature behind the pressure of a frame: the rest of a line.
-fn with_temperature(rest: &[u8], a: u64, p: f64) -> Line {
+fn with_temperature(rest: &[u8], a: u64, p: f64) -> Option<Frames> {
     let end = text::find(rest, 0, b' ');
     if end >= rest.len() {
-        return Line::Bad;
+        return None;
     }
-    let Number::Is(c) = text::read_number(&rest[0..end]) else {
-        return Line::Bad;
-    };
-    let Real::Is(t) = reading(&rest[end + 1..]) else {
-        return Line::Bad;
-    };
-    Line::Frames(a, p, c, t)
+    let c = text::read_number(&rest[0..end])?;
+    let t = reading(&rest[end + 1..])?;
+    Some(Frames {
+        pressure_frame: a,
+        pressure: p,
+        temperature_frame: c,
+        temperature: t,
+    })
 }
 
 // A pressure of a frame, and what follows.
-fn with_pressure(rest: &[u8], a: u64) -> Line {
+fn with_pressure(rest: &[u8], a: u64) -> Option<Frames> {
     let end = text::find(rest, 0, b' ');
     if end >= rest.len() {
-        return Line::Bad;
+        return None;
     }
-    let Real::Is(p) = reading(&rest[0..end]) else {
-        return Line::Bad;
-    };
+    let p = reading(&rest[0..end])?;
     with_temperature(&rest[end + 1..], a, p)
 }
 
 // Two readings, each with its frame before it, with single spaces between them.
-pub fn parse(line: &[u8]) -> Line {
+pub fn parse(line: &[u8]) -> Option<Frames> {
     let end = text::find(line, 0, b' ');
     if end >= line.len() {
-        return Line::Bad;
+        return None;
     }
-    let Number::Is(a) = text::read_number(&line[0..end]) else {
-        return Line::Bad;
-    };
+    let a = text::read_number(&line[0..end])?;
     with_pressure(&line[end + 1..], a)
 }
 
@@ -246,16 +218,16 @@ fn put_signed(out: &mut [u8], at: usize, b: u64) -> usize {
 
 // A refusal in words. The temperature's frame is c.
 fn put_why(out: &mut [u8], at: usize, e: Refusal, c: u64) -> usize {
-    match answers::number(e) {
-        13 => {
+    match e {
+        Refusal::FramesDiffer => {
             let at = text::put(out, at, b": the temperature is of frame ");
             text::put_number(out, at, c)
         }
-        11 => {
+        Refusal::BadImage(offset) => {
             let at = text::put(out, at, b": the image is wrong at byte ");
-            text::put_number(out, at, answers::place(e))
+            text::put_number(out, at, offset)
         }
-        7 => text::put(
+        Refusal::Outside => text::put(
             out,
             at,
             b": a table of the image is not allowed over the alphabet 2",
@@ -275,12 +247,12 @@ fn put_refusal(out: &mut [u8], at: usize, e: Refusal, c: u64) -> usize {
 }
 
 // The line of a frame.
-fn put_massed(out: &mut [u8], at: usize, a: u64, c: u64, m: Massed) -> usize {
+fn put_massed(out: &mut [u8], at: usize, a: u64, c: u64, m: Result<f64, FrameRefusal>) -> usize {
     let at = text::put_number(out, at, a);
     let at = text::put_byte(out, at, b' ');
     match m {
-        Massed::Is(x) => put_mass(out, at, x),
-        Massed::Refused(e, _) => put_refusal(out, at, e, c),
+        Ok(x) => put_mass(out, at, x),
+        Err(e) => put_refusal(out, at, e.refusal, c),
     }
 }
 
@@ -294,7 +266,12 @@ fn put_bad(out: &mut [u8], at: usize, n: u64) -> usize {
 // What is written for the n-th line.
 pub fn put_answer(out: &mut [u8], at: usize, surface: &[u8], line: &[u8], n: u64) -> usize {
     match parse(line) {
-        Line::Frames(a, p, c, t) => put_massed(out, at, a, c, mass::mass(surface, a, p, c, t)),
-        Line::Bad => put_bad(out, at, n),
+        Some(line) => {
+            let a = line.pressure_frame;
+            let c = line.temperature_frame;
+            let m = mass::mass(surface, a, line.pressure, c, line.temperature);
+            put_massed(out, at, a, c, m)
+        }
+        None => put_bad(out, at, n),
     }
 }

@@ -125,10 +125,8 @@ fn answer_block(
     out: &mut [u8],
 ) -> io::Result<Held> {
     let mut h = before;
-    let mut i = 0;
-    while i < block.len() {
-        h = take(rt, line, h, block[i], surface, out)?;
-        i += 1;
+    for b in block {
+        h = take(rt, line, h, *b, surface, out)?;
     }
     Ok(h)
 }
@@ -173,7 +171,7 @@ fn start() -> Held {
     Held { bytes: 0, progress }
 }
 
-// Answers the input block by block. Nothing says that an input ends, so the blocks are counted down from a number that no run uses up.
+// Answers the input block by block. Nothing says that an input ends, so the blocks are counted up to a number that no run reaches.
 fn answer_input(
     rt: &(impl Input + Print),
     block: &mut [u8],
@@ -182,15 +180,13 @@ fn answer_input(
     out: &mut [u8],
 ) -> io::Result<()> {
     let mut h = start();
-    let mut turns = u64::MAX;
-    while turns > 0 {
+    for _ in 0..u64::MAX {
         let n = streams::read_some(rt, block)?;
         if n == 0 {
             return finish(rt, line, h, surface, out);
         }
         h = answer_block(rt, &block[0..n], line, h, surface, out)?;
         h = written(rt, out, h)?;
-        turns -= 1;
     }
     Ok(())
 }

@@ -9,7 +9,7 @@ use laws::Triple;
 use spaces::Space;
 use std::io;
 
-// What the cases of a space came to; `first` is the last that was found to differ, the cases being run from the last to the first.
+// What the cases of a space came to; `first` is the last that was found to differ, if any was, the cases being run from the last to the first.
 #[derive(Clone, Copy)]
 struct Tally {
     answered: u64,
@@ -18,7 +18,7 @@ struct Tally {
     with_6: u64,
     with_7: u64,
     differ: u64,
-    first: Triple,
+    first: Option<Triple>,
     seed: u64,
 }
 
@@ -63,8 +63,7 @@ fn line(rt: &impl Print, name: &str, space: Space, size: u64) -> io::Result<()> 
     part(rt, tally.with_6, " with 6, ")?;
     part(rt, tally.with_7, " with 7, ")?;
     part(rt, tally.differ, " differ\n")?;
-    if tally.differ != 0 {
-        let first = tally.first;
+    if let Some(first) = tally.first {
         rt.print("the first:")?;
         record(rt, first.x)?;
         record(rt, first.y)?;
@@ -91,18 +90,14 @@ fn record(rt: &impl Print, x: answers::Index) -> io::Result<()> {
 
 // The cases of a space, from the last to the first.
 fn counted(space: Space, size: u64) -> Tally {
-    let mut left = size;
     let mut tally = empty();
-    while left > 0 {
-        left -= 1;
-        tally = with_case(tally, space, left);
+    for t in (0..size).rev() {
+        tally = with_case(tally, space, t);
     }
     tally
 }
 
 fn empty() -> Tally {
-    let x = spaces::small(false, 0);
-    let first = Triple { x, y: x, z: x };
     Tally {
         answered: 0,
         with_1: 0,
@@ -110,7 +105,7 @@ fn empty() -> Tally {
         with_6: 0,
         with_7: 0,
         differ: 0,
-        first,
+        first: None,
         seed: 88172645463325252,
     }
 }
@@ -132,27 +127,19 @@ fn with_case(tally: Tally, space: Space, t: u64) -> Tally {
     out
 }
 
-// The number of a case's answer, 0 where it has no refusal, and whether its laws hold.
-fn noted(tally: Tally, seed: u64, case: Triple, number: u64, holds: bool) -> Tally {
-    let before = tally.first;
-    let first = chosen(holds, before, case);
+// The number of a case's refusal, and whether its laws hold.
+fn noted(tally: Tally, seed: u64, case: Triple, number: Option<u64>, holds: bool) -> Tally {
+    let first = if holds { tally.first } else { Some(case) };
     Tally {
-        answered: more(tally.answered, number == 0),
-        with_1: more(tally.with_1, number == 1),
-        with_5: more(tally.with_5, number == 5),
-        with_6: more(tally.with_6, number == 6),
-        with_7: more(tally.with_7, number == 7),
+        answered: more(tally.answered, number.is_none()),
+        with_1: more(tally.with_1, number == Some(1)),
+        with_5: more(tally.with_5, number == Some(5)),
+        with_6: more(tally.with_6, number == Some(6)),
+        with_7: more(tally.with_7, number == Some(7)),
         differ: more(tally.differ, !holds),
         first,
         seed,
     }
-}
-
-fn chosen(holds: bool, before: Triple, case: Triple) -> Triple {
-    if holds {
-        return before;
-    }
-    case
 }
 
 // One more if so.

@@ -31,7 +31,7 @@ use Rattle.words.proofs.Inversions.{increasing_has_no_inversions, apart_is_no_eq
 use Rattle.answers.specs.declared.Index.{Index}
 use Rattle.answers.specs.declared.Sign.{Sign}
 use Rattle.answers.specs.declared.Sign.TheVariants.{Plus, Minus}
-use Rattle.answers.specs.Says.{Says, refuses_with, refuses, gives, refused_if, and_then, SignedTerm}
+use Rattle.answers.specs.Says.{Says, refuses_with, refuses, gives, refused_if, and_then}
 use Rattle.answers.specs.Signs.{times, sign_in}
 use Rattle.answers.specs.Terms.{index_of, word_of}
 use Rattle.answers.proofs.Says.{gives_no_refusal, passed}
@@ -47,6 +47,7 @@ use Rattle.algebra.proofs.Over.{merged_below}
 use Rattle.algebra.proofs.Promises.{no_sign}
 use Rattle.merge_laws.specs.Bracketings.{multiplied, left_first, right_first, exchange_sign, Bracketing, leaf, join, leaves, merge_terms, product_of, index_alone, AllOf, row_word, largest, Apart, MayMerge, number_in, stops, row_says, Reordered}
 use Rattle.merge_laws.proofs.Rows.{whole, rows_merge, rows-exchange, rows_reordered}
+use Rattle.answers.specs.declared.SignedTerm.{SignedTerm}
 
 -- ---- rows of indices
 

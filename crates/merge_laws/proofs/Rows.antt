@@ -21,7 +21,7 @@ use Rattle.words.specs.Word.{Monotone, Below, shifted_alphabet}
 use Rattle.words.specs.Inversions.{multiplicity, crossings, equal_pairs, inversions}
 use Rattle.words.proofs.Inversions.{inversions_append, crossings_append_left, crossings_both_ways, multiplicity_append}
 use Rattle.answers.specs.declared.Sign.{Sign}
-use Rattle.answers.specs.Says.{gives, refused_if, and_then, SignedTerm}
+use Rattle.answers.specs.Says.{gives, refused_if, and_then}
 use Rattle.answers.specs.Signs.{sign_of, times, sign_in}
 use Rattle.answers.specs.Terms.{index_of}
 use Rattle.answers.proofs.Signs.{sign_of_parity, times_of_sum}
@@ -37,6 +37,7 @@ use Rattle.algebra.proofs.Over.{sorted_long}
 use Rattle.algebra.proofs.Gathering.{sorted-monotone}
 use Rattle.algebra.proofs.Promises.{by_words}
 use Rattle.merge_laws.specs.Bracketings.{multiplied, exchange_sign, merge_terms, index_alone, number_in, stops, row_says}
+use Rattle.answers.specs.declared.SignedTerm.{SignedTerm}
 
 -- ---- what does not depend on the order
 

@@ -23,12 +23,13 @@ use Rattle.words.specs.Inversions.{inversions}
 use Rattle.answers.specs.declared.Index.{Index}
 use Rattle.answers.specs.declared.Sign.{Sign}
 use Rattle.answers.specs.declared.Sign.TheVariants.{Plus}
-use Rattle.answers.specs.Says.{Says, gives, refused_if, and_then, SignedTerm}
+use Rattle.answers.specs.Says.{Says, gives, refused_if, and_then}
 use Rattle.answers.specs.Signs.{times, sign_in}
 use Rattle.answers.specs.Terms.{index_of, word_of}
 use Rattle.taking.specs.Taken.{Accepted}
 use Rattle.merging.specs.Sorting.{sorted, repeats}
 use Rattle.algebra.specs.Rules.{merge_says}
+use Rattle.answers.specs.declared.SignedTerm.{SignedTerm}
 
 -- ---- two and three
 

@@ -16,6 +16,7 @@ fn mirrored(a: u64, bits: u64) -> u64
 {
     let mut left = bits;
     let mut out: u64 = 0;
+    // The set is run down and no index is counted: a `for` over as many turns would say less.
     while left != 0 {
         out += 1u64 << (a - 1 - bits::lowest(left));
         left = bits::without_lowest(left);

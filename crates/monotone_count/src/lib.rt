@@ -4,47 +4,40 @@
 ghost use Rattle.std.specs.Prelude.{◌≡◌};
 ghost use Rattle.answers.specs.Says.{answer_says};
 ghost use Rattle.monotone_count.specs.Rules.{count_says, walk_says};
-ghost use Rattle.monotone_walk.specs.Walks.{started_says};
 
-use answers::{Answer, Index, Refusal};
-use monotone_walk::{Current, Started, Walk};
+use answers::{Index, Refusal};
+use monotone_walk::Walk;
 use words::Family;
 
 // How many words of k symbols below n there are: 1 if k or the shifted alphabet is above 64.
-pub fn count(family: Family, n: u64, k: u64) -> Answer
+pub fn count(family: Family, n: u64, k: u64) -> Result<u64, Refusal>
     ensures { answer_says result ≡ count_says family n k }
 {
     if 64 < k {
-        return Answer::Refused(Refusal::TooWide);
+        return Err(Refusal::TooWide);
     }
     if taking::too_wide(family, n, k) {
-        return Answer::Refused(Refusal::TooWide);
+        return Err(Refusal::TooWide);
     }
     let alphabet = taking::shifted_alphabet(family, n, k);
-    Answer::Is(count::at(alphabet, k))
+    Ok(count::at(alphabet, k))
 }
 
 // A walk over the words of k symbols below n: refused as the count is. It stands at the k lowest bits, or nowhere if the count is 0, with the count remaining.
-pub fn start(family: Family, n: u64, k: u64) -> Started
-    ensures { started_says result ≡ walk_says family n k }
+pub fn start(family: Family, n: u64, k: u64) -> Result<Walk, Refusal>
+    ensures { answer_says result ≡ walk_says family n k }
 {
-    let a = count(family, n, k);
-    let Answer::Is(remaining) = a else {
-        let Answer::Refused(e) = a else {
-            return Started::Refused(Refusal::TooWide);
-        };
-        return Started::Refused(e);
-    };
+    let remaining = count(family, n, k)?;
     if remaining == 0 {
-        let current = Current::Nothing;
-        return Started::Walk(Walk { current, remaining });
+        let current = None;
+        return Ok(Walk { current, remaining });
     }
     let alphabet = n;
     let bits = bits::low_mask(k);
-    let current = Current::At(Index {
+    let current = Some(Index {
         family,
         alphabet,
         bits,
     });
-    Started::Walk(Walk { current, remaining })
+    Ok(Walk { current, remaining })
 }

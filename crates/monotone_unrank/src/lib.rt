@@ -2,29 +2,23 @@
 #![tactic(auto)]
 
 ghost use Rattle.std.specs.Prelude.{◌≡◌, ◌≤◌, length};
-ghost use Rattle.answers.specs.Says.{answer_says, indexed_says, places_of, after};
+ghost use Rattle.answers.specs.Says.{answer_says, places_of, after};
 ghost use Rattle.monotone_unrank.specs.Rules.{unrank_over_says, unrank_says, widest as widest_of, unrank_any_says};
 
-use answers::{Answer, Index, Indexed, Refusal};
+use answers::{Index, Refusal};
 use words::Family;
 
 // The index of the word of k symbols below n that has the rank r: refused as the count is; 3 if r is not below the count.
-pub fn unrank_over(family: Family, n: u64, k: u64, r: u64) -> Indexed
-    ensures { indexed_says result ≡ unrank_over_says family n k r }
+pub fn unrank_over(family: Family, n: u64, k: u64, r: u64) -> Result<Index, Refusal>
+    ensures { answer_says result ≡ unrank_over_says family n k r }
 {
-    let a = monotone_count::count(family, n, k);
-    let Answer::Is(c) = a else {
-        let Answer::Refused(e) = a else {
-            return Indexed::Refused(Refusal::TooWide);
-        };
-        return Indexed::Refused(e);
-    };
+    let c = monotone_count::count(family, n, k)?;
     if c <= r {
-        return Indexed::Refused(Refusal::NoSuchRank);
+        return Err(Refusal::NoSuchRank);
     }
     let alphabet = n;
     let bits = unranking::word(taking::shifted_alphabet(family, n, k), k, r);
-    Indexed::At(Index {
+    Ok(Index {
         family,
         alphabet,
         bits,
@@ -32,17 +26,11 @@ pub fn unrank_over(family: Family, n: u64, k: u64, r: u64) -> Indexed
 }
 
 // The same word, written into a lent output: 8, last, if that is too short. The answer is how many places are written.
-pub fn unrank(family: Family, n: u64, k: u64, r: u64, out: &mut [u64]) -> Answer
+pub fn unrank(family: Family, n: u64, k: u64, r: u64, out: &mut [u64]) -> Result<u64, Refusal>
     ensures says { answer_says result ≡ places_of (unrank_says family n k r (length out.old)) }
     ensures holds { out.new ≡ after (unrank_says family n k r (length out.old)) out.old }
 {
-    let a = unrank_over(family, n, k, r);
-    let Indexed::At(x) = a else {
-        let Indexed::Refused(e) = a else {
-            return Answer::Refused(Refusal::TooWide);
-        };
-        return Answer::Refused(e);
-    };
+    let x = unrank_over(family, n, k, r)?;
     monotone::unpack(x, out)
 }
 
@@ -58,11 +46,11 @@ fn widest(family: Family, k: u64) -> u64
 }
 
 // Unranking that names no alphabet: over the widest. 1 if k is above 64; 3.
-pub fn unrank_any(family: Family, k: u64, r: u64) -> Indexed
-    ensures { indexed_says result ≡ unrank_any_says family k r }
+pub fn unrank_any(family: Family, k: u64, r: u64) -> Result<Index, Refusal>
+    ensures { answer_says result ≡ unrank_any_says family k r }
 {
     if 64 < k {
-        return Indexed::Refused(Refusal::TooWide);
+        return Err(Refusal::TooWide);
     }
     let n = widest(family, k);
     unrank_over(family, n, k, r)

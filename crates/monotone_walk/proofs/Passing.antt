@@ -3,7 +3,9 @@
 --   Following x b    b is the next set of as many numbers as x has: 0 where there is none, otherwise the bits of the next index, if they stay below the shifted alphabet
 --   following    so it is
 --   next_accepted, next_at_once    an index whose next set stays below its shifted alphabet is accepted: one test serves for both
---   step_refused, step_last, step_on    one step of a walk, by the code's verdict of its current index
+--   step_nowhere, step_refused, step_last, step_on    one step of a walk, by the code's verdict of its current index
+use Rattle.std.specs.Prelude.{Result, Ok, Err, Option, Some, None, ok_or}
+use Rattle.std.specs.Result.{result_ok}
 use mathlib.Core.Path.{◌≡◌, refl, sym, ap, subst, ◌∙◌}
 use mathlib.Core.Bool.{Bool, true, false}
 use mathlib.Core.List.{List, [], ◌∷◌}
@@ -25,19 +27,17 @@ use Rattle.words.proofs.Bits.{bits_fit, below_of_bits, bits_of_set, set-bits-mon
 use Rattle.words.proofs.Shifted.{word-shifted, shifted_next}
 use Rattle.answers.specs.declared.Index.{Index}
 use Rattle.answers.specs.declared.Refusal.{Refusal}
-use Rattle.answers.specs.Says.{Says, refuses_with, refuses, gives, refused_if, number_of, carried_by}
+use Rattle.answers.specs.declared.Refusal.TheVariants.{Last}
+use Rattle.answers.specs.Says.{Says, refuses_with, refuses, gives, refused_if, number_of, carried_by, answer_says}
 use Rattle.answers.specs.Terms.{index_of, word_of}
 use Rattle.answers.proofs.Terms.{word_of_index, word_long, word-monotone, shifted-word}
 use Rattle.bits.specs.Member.{reaches}
 use Rattle.bits.proofs.Member.{reaches_not}
-use Rattle.taking.specs.declared.Verdict.{Verdict}
-use Rattle.taking.specs.declared.Verdict.TheVariants as verdict
 use Rattle.taking.specs.Taken.{shifted_alphabet_of, Accepted, verdict_of}
 use Rattle.taking.proofs.Accepted.{below_is_shifted, outside_is_reaches, taken-accepted, took, verdict_accepted}
 use Rattle.seam.specs.Later.{following as following_of}
 use Rattle.successor.specs.Later.{later}
 use Rattle.monotone_walk.specs.Rules.{next_says, successor_says}
-use Rattle.monotone_walk.specs.declared.Current.TheVariants.{At}
 use Rattle.monotone_walk.specs.Walks.{current, step_from}
 
 pos_of_ne : (a b : ℕ) → (b ≡ 0 → ⊥) → a ≡ b → 0 < a
@@ -151,18 +151,29 @@ next_at_once x b t e h f l r =
     let a : Accepted x = next_accepted x b e h (omega (arith, l, f)) u in
     (following x b a e).more h u ∙ sym (taken-accepted x (next_says x) a)
 
-pub step_refused : (x : Index) (n : ℕ) (v : Verdict) (e : Refusal) → v ≡ verdict_of x → v ≡ verdict.Refused e → refuses_with (number_of e) (carried_by e) ≡ step_from (At x) n
+pub step_nowhere : (o : Option Index) (n : ℕ) (r : Result Index Refusal) (e : Refusal) → r ≡ ok_or o Last → r ≡ Err e → refuses_with (number_of e) (carried_by e) ≡ step_from o n
+step_nowhere None n r e f g = ap (λ (z : Refusal). refuses_with (number_of z) (carried_by z)) (let h : e ≡ Last = grind (arith, f, g) in h)
+step_nowhere (Some x) n r e f g = grind (arith, f, g)
+
+-- where a walk stands after an index: what the next one is, if it is one
+current_ok : (r : Result Index Refusal) → current (answer_says r) ≡ result_ok r
+current_ok (Ok x) = refl
+current_ok (Err e) = refl
+
+pub step_refused : (x : Index) (n : ℕ) (v : Result Unit Refusal) (e : Refusal) → v ≡ verdict_of x → v ≡ Err e → refuses_with (number_of e) (carried_by e) ≡ step_from (Some x) n
 step_refused x n v e f g =
-    took x (refused_if (eqb n 0) 4 (gives (record { index = x; state = record { current = current (successor_says x); remaining = n - 1 } }))) v (verdict.Refused e) f g
+    took x (refused_if (eqb n 0) 4 (gives (record { index = x; state = record { current = current (successor_says x); remaining = n - 1 } }))) v (Err e) f g
 
-pub step_last : (x : Index) (n : ℕ) (v : Verdict) → v ≡ verdict_of x → v ≡ verdict.Accepted → n ≡ 0 → refuses 4 ≡ step_from (At x) n
-step_last x n v f g z =
+pub step_last : (x : Index) (n : ℕ) (v : Result Unit Refusal) (w : Unit {0}) → v ≡ verdict_of x → v ≡ Ok w → n ≡ 0 → refuses 4 ≡ step_from (Some x) n
+step_last x n v w f g z =
     ap (λ t. refused_if t 4 (gives (record { index = x; state = record { current = current (successor_says x); remaining = n - 1 } }))) (sym (eq-eqb n 0 z))
-    ∙ took x (refused_if (eqb n 0) 4 (gives (record { index = x; state = record { current = current (successor_says x); remaining = n - 1 } }))) v verdict.Accepted f g
+    ∙ took x (refused_if (eqb n 0) 4 (gives (record { index = x; state = record { current = current (successor_says x); remaining = n - 1 } }))) v (Ok w) f g
 
-pub step_on : (x : Index) (n : ℕ) (v : Verdict) (s : Says Index) → v ≡ verdict_of x → v ≡ verdict.Accepted → (n ≡ 0 → ⊥) → next_says x ≡ s
-    → gives (record { index = x; state = record { current = current s; remaining = n - 1 } }) ≡ step_from (At x) n
-step_on x n v s f g z e =
-    ap (λ (r : Says Index). gives (record { index = x; state = record { current = current r; remaining = n - 1 } })) (sym e ∙ sym (taken-accepted x (next_says x) (verdict_accepted x v f g)))
+pub step_on : (x : Index) (n : ℕ) (v : Result Unit Refusal) (w : Unit {0}) (r : Result Index Refusal) (o : Option Index)
+    → v ≡ verdict_of x → v ≡ Ok w → (n ≡ 0 → ⊥) → answer_says r ≡ next_says x → o ≡ result_ok r
+    → gives (record { index = x; state = record { current = o; remaining = n - 1 } }) ≡ step_from (Some x) n
+step_on x n v w r o f g z e h =
+    ap (λ (p : Option Index). gives (record { index = x; state = record { current = p; remaining = n - 1 } })) (h ∙ sym (current_ok r))
+    ∙ ap (λ (s : Says Index). gives (record { index = x; state = record { current = current s; remaining = n - 1 } })) (e ∙ sym (taken-accepted x (next_says x) (verdict_accepted x v w f g)))
     ∙ ap (λ t. refused_if t 4 (gives (record { index = x; state = record { current = current (successor_says x); remaining = n - 1 } }))) (sym (ne_eqb n 0 z))
-    ∙ took x (refused_if (eqb n 0) 4 (gives (record { index = x; state = record { current = current (successor_says x); remaining = n - 1 } }))) v verdict.Accepted f g
+    ∙ took x (refused_if (eqb n 0) 4 (gives (record { index = x; state = record { current = current (successor_says x); remaining = n - 1 } }))) v (Ok w) f g

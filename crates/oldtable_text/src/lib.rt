@@ -2,9 +2,8 @@
 // what the old order cannot do.
 #![tactic(auto)]
 
-use answers::{Answer, Refusal};
+use answers::Refusal;
 use std::io;
-use text::{Named, Number};
 use words::Family;
 
 // What a header asks for: whether the way is back to the old order, the family, the number of symbols and the degree.
@@ -16,55 +15,42 @@ struct Header {
     k: u64,
 }
 
+// Why the entries are not all taken: one is wrong, or missing, counted from 0.
 #[derive(Clone, Copy)]
-enum Asked {
-    Table(Header),
-    Bad,
-}
-
-// What became of the entries: all are taken, and the text goes on at a place; one is wrong, or missing, counted from 0.
-#[derive(Clone, Copy)]
-enum Taken {
-    All(usize),
+enum Fault {
     Wrong(u64),
     Short(u64),
 }
 
 // A header is a direction, a family, n and k, with single spaces between them.
-fn parse(line: &[u8]) -> Asked {
+fn parse(line: &[u8]) -> Option<Header> {
     let a = text::find(line, 0, b' ');
     if a == line.len() {
-        return Asked::Bad;
+        return None;
     }
     let b = text::find(line, a + 1, b' ');
     if b == line.len() {
-        return Asked::Bad;
+        return None;
     }
     let back = check::same(&line[0..a], b"new-to-old");
     if !back {
         if !check::same(&line[0..a], b"old-to-new") {
-            return Asked::Bad;
+            return None;
         }
     }
-    let Named::Family(family) = text::family(&line[a + 1..b]) else {
-        return Asked::Bad;
-    };
+    let family = text::family(&line[a + 1..b])?;
     sized(&line[b + 1..], back, family)
 }
 
 // The rest of a header: n and k.
-fn sized(line: &[u8], back: bool, family: Family) -> Asked {
+fn sized(line: &[u8], back: bool, family: Family) -> Option<Header> {
     let a = text::find(line, 0, b' ');
     if a == line.len() {
-        return Asked::Bad;
+        return None;
     }
-    let Number::Is(n) = text::read_number(&line[0..a]) else {
-        return Asked::Bad;
-    };
-    let Number::Is(k) = text::read_number(&line[a + 1..]) else {
-        return Asked::Bad;
-    };
-    Asked::Table(Header { back, family, n, k })
+    let n = text::read_number(&line[0..a])?;
+    let k = text::read_number(&line[a + 1..])?;
+    Some(Header { back, family, n, k })
 }
 
 // Puts the entry that a line writes into place r of a body. Says whether it is one.
@@ -87,22 +73,20 @@ fn take_entry(line: &[u8], body: &mut [u8], r: u64) -> bool {
     true
 }
 
-// Takes so many entries, a line each, from a place of the text on.
-fn take_entries(held: &[u8], from: usize, count: u64, body: &mut [u8]) -> Taken {
+// Takes so many entries, a line each, from a place of the text on: the place at which the text goes on.
+fn take_entries(held: &[u8], from: usize, count: u64, body: &mut [u8]) -> Result<usize, Fault> {
     let mut at = from;
-    let mut r: u64 = 0;
-    while r < count {
+    for r in 0..count {
         if held.len() <= at {
-            return Taken::Short(r);
+            return Err(Fault::Short(r));
         }
         let end = text::find(held, at, b'\n');
         if !take_entry(&held[at..end], body, r) {
-            return Taken::Wrong(r);
+            return Err(Fault::Wrong(r));
         }
         at = end + 1;
-        r += 1;
     }
-    Taken::All(at)
+    Ok(at)
 }
 
 // A fault, with the line where it is.
@@ -176,10 +160,8 @@ fn put_entries(
     count: u64,
 ) -> io::Result<usize> {
     let mut to = at;
-    let mut r: u64 = 0;
-    while r < count {
+    for r in 0..count {
         to = put_entry(rt, out, to, body, r)?;
-        r += 1;
     }
     Ok(to)
 }
@@ -206,7 +188,7 @@ fn put_converted(
     let family = h.family;
     let end = (8 * count) as usize;
     let a = conversion::convert(h.back, family, h.n, h.k, &body[0..end], &mut other[0..end]);
-    if let Answer::Refused(e) = a {
+    if let Err(e) = a {
         return Ok(put_refusal(out, at, e));
     }
     let at = put_header(out, at, h);
@@ -225,9 +207,14 @@ fn put_body(
     count: u64,
 ) -> io::Result<usize> {
     match take_entries(held, from, count, body) {
-        Taken::Wrong(r) => Ok(put_fault_of(out, at, r, b"an entry is sixteen hex digits")),
-        Taken::Short(r) => Ok(put_fault_of(out, at, r, b"the table ends before its last entry")),
-        Taken::All(end) => {
+        Err(Fault::Wrong(r)) => Ok(put_fault_of(out, at, r, b"an entry is sixteen hex digits")),
+        Err(Fault::Short(r)) => Ok(put_fault_of(
+            out,
+            at,
+            r,
+            b"the table ends before its last entry",
+        )),
+        Ok(end) => {
             if end < held.len() {
                 let at = put_fault_of(out, at, count, b"the table goes on after its last entry");
                 return Ok(at);
@@ -249,8 +236,8 @@ fn put_table(
 ) -> io::Result<usize> {
     let family = h.family;
     match monotone_count::count(family, h.n, h.k) {
-        Answer::Refused(e) => Ok(put_refusal(out, at, e)),
-        Answer::Is(count) => {
+        Err(e) => Ok(put_refusal(out, at, e)),
+        Ok(count) => {
             if count > 8192 {
                 return Ok(put_fault(out, at, 1, b"more than 8192 entries"));
             }
@@ -263,8 +250,8 @@ fn put_table(
 fn put_answer(rt: &impl Print, out: &mut [u8], at: usize, held: &[u8]) -> io::Result<usize> {
     let end = text::find(held, 0, b'\n');
     match parse(&held[0..end]) {
-        Asked::Bad => Ok(put_fault(out, at, 1, b"the header is DIRECTION FAMILY N K")),
-        Asked::Table(h) => put_table(rt, out, at, h, held, end + 1),
+        None => Ok(put_fault(out, at, 1, b"the header is DIRECTION FAMILY N K")),
+        Some(h) => put_table(rt, out, at, h, held, end + 1),
     }
 }
 

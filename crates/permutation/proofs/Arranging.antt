@@ -1,8 +1,9 @@
 -- Answers that give a permutation. Assumes nothing.
 --   word_of_record, record_holds    the record of a list holds that list
---   arranges_refusal, arranges_given    what such an answer says, from how it was made
---   arranged_is_whole    the record beside the verdict has all its entries, if no list that is given passes the capacity
-use mathlib.Core.Path.{◌≡◌, refl, ap, subst, subst⁻¹, ◌∙◌}
+--   recorded-says    an answer that is the record of what is said says that list
+--   recorded-whole    the record that is given has all its entries, if no list that is said passes the capacity
+use Rattle.std.specs.Prelude.{Result, Ok}
+use mathlib.Core.Path.{◌≡◌, refl, sym, ap, subst, subst⁻¹, ◌∙◌}
 use mathlib.Core.List.{List, ◌++◌}
 use Prim.Native.Nat.{ℕ, zero, suc, ◌+◌, ◌-◌, ◌≤◌}
 use native.Mathlib.Omega.{arith}
@@ -10,10 +11,10 @@ use lib.ListN.{length, drop, get_or, replicate, length-append, length-drop}
 use lib.Seq.{take-append_seam, get_or-append-add, get_or-drop}
 use Rattle.arrangements.specs.Permutation.{Permutation as IsPermutation}
 use Rattle.answers.specs.declared.Refusal.{Refusal}
-use Rattle.answers.specs.Says.{Says, refuses_with, gives, number_of, carried_by}
+use Rattle.answers.specs.Says.{Says, refuses_with, gives, and_then, answer_says}
+use Rattle.answers.proofs.Says.{gives_same, then_gave}
 use Rattle.permutation.specs.declared.Permutation.{Permutation}
-use Rattle.permutation.specs.declared.Arranged.{Arranged}
-use Rattle.permutation.specs.Record.{capacity, empty_entries, arrangement_of, record_of, Whole, GoodRecord, record_beside, refusal, giving, Arranges}
+use Rattle.permutation.specs.Record.{capacity, empty_entries, arrangement_of, record_of, Whole, GoodRecord, arranged_says, recorded}
 
 pub word_of_record : (w : List ℕ) → arrangement_of (record_of w) ≡ w
 word_of_record w = take-append_seam w (drop (length w) empty_entries)
@@ -38,17 +39,17 @@ record_holds n w p l =
       past = zero-past w;
     }
 
-pub arranges_refusal : (s : Says (List ℕ)) (r : Arranged) (e : Refusal) → r ≡ refusal e → s ≡ refuses_with (number_of e) (carried_by e) → Arranges s r
-arranges_refusal s r e q t = subst⁻¹ (λ (x : Arranged). Arranges s x) q (subst⁻¹ (λ (x : Says (List ℕ)). Arranges x (refusal e)) t (record { says = refl; value = refl }))
+-- ---- an answer that is the record of what is said
 
-pub arranges_given : (s : Says (List ℕ)) (r : Arranged) (p : Permutation) (w : List ℕ) → r ≡ giving p → p ≡ record_of w → s ≡ gives w → Arranges s r
-arranges_given s r p w q e t =
-    subst⁻¹ (λ (x : Arranged). Arranges s x) (q ∙ ap giving e)
-    (subst⁻¹ (λ (x : Says (List ℕ)). Arranges x (giving (record_of w))) t (record { says = ap gives (word_of_record w); value = refl }))
+module _ (s : Says (List ℕ)) (r : Result Permutation Refusal) (e : answer_says r ≡ recorded s) where
+  pub recorded-says : arranged_says r ≡ s
+  recorded-says = ap (λ (x : Says Permutation). and_then x (λ p. gives (arrangement_of p))) e ∙ go s
+    where
+      go : (s : Says (List ℕ)) → and_then (recorded s) (λ p. gives (arrangement_of p)) ≡ s
+      go (refuses_with n c) = refl
+      go (gives w) = ap gives (word_of_record w)
 
-pub arranged_is_whole : (s : Says (List ℕ)) (r : Arranged) → ((w : List ℕ) → s ≡ gives w → length w ≤ capacity) → Arranges s r → Whole r.value
-arranged_is_whole s r short a = subst⁻¹ Whole a.value (go s short)
-  where
-    go : (s : Says (List ℕ)) → ((w : List ℕ) → s ≡ gives w → length w ≤ capacity) → Whole (record_beside s)
-    go (refuses_with e c) h = refl
-    go (gives w) h = omega (arith, h w refl, length-append w (drop (length w) empty_entries), length-drop (length w) empty_entries)
+  pub recorded-whole : ((w : List ℕ) → s ≡ gives w → length w ≤ capacity) → (p : Permutation) → r ≡ Ok p → Whole p
+  recorded-whole short p q =
+      let t = then_gave s (λ w. gives (record_of w)) p (sym e ∙ ap answer_says q) in
+      subst Whole (gives_same (record_of t.0) p t.2) (omega (arith, short t.0 t.1, length-append t.0 (drop (length t.0) empty_entries), length-drop (length t.0) empty_entries))

@@ -3,6 +3,7 @@
 --   holds_below    the entries of a permutation are below its length
 --   tested_holds, holds_good, taken_holds, holds_taken    the check passes exactly where the record holds a permutation
 --   verdict-refuses, verdict-gives    what the verdict of the check tells
+use Rattle.std.specs.Prelude.{Result, Ok, Err}
 use mathlib.Core.Path.{◌≡◌, refl, sym, ap, ◌∙◌}
 use mathlib.Core.Bool.{Bool, true, false, true≢false}
 use mathlib.Core.List.{List}
@@ -15,11 +16,9 @@ use Rattle.words.specs.Pick.{pick}
 use Rattle.arrangements.specs.Permutation.{is_permutation}
 use Rattle.arrangements.proofs.Places.{by_places, test_tells, test_passes}
 use Rattle.answers.specs.declared.Refusal.{Refusal}
-use Rattle.answers.specs.Says.{refuses, refuses_with, gives, refused_if, number_of, carried_by}
+use Rattle.answers.specs.Says.{refuses_with, gives, refused_if, number_of, carried_by}
 use Rattle.answers.proofs.Says.{passed}
 use Rattle.permutation.specs.declared.Permutation.{Permutation}
-use Rattle.permutation.specs.declared.Verdict.{Verdict}
-use Rattle.permutation.specs.declared.Verdict.TheVariants as verdict
 use Rattle.permutation.specs.Record.{capacity, zeros_only, arrangement_of, Whole, GoodRecord, verdict_says}
 use Rattle.permutation.specs.Rules.{too_long, is_good, not_a_permutation, taken_arrangement}
 use Rattle.permutation.proofs.Past.{past-tells, past-passes}
@@ -59,9 +58,9 @@ holds_taken p w l e =
 
 -- ---- the verdict of the check
 
-module _ (p : Permutation) (v : Verdict) (says : verdict_says v (arrangement_of p) ≡ taken_arrangement p) where
-  pub verdict-refuses : (e : Refusal) → v ≡ verdict.Refused e → taken_arrangement p ≡ refuses_with (number_of e) (carried_by e)
-  verdict-refuses e q = sym says ∙ ap (λ (x : Verdict). verdict_says x (arrangement_of p)) q
+module _ (p : Permutation) (v : Result (Unit {0}) Refusal) (says : verdict_says v (arrangement_of p) ≡ taken_arrangement p) where
+  pub verdict-refuses : (e : Refusal) → v ≡ Err e → taken_arrangement p ≡ refuses_with (number_of e) (carried_by e)
+  verdict-refuses e q = sym says ∙ ap (λ (x : Result (Unit {0}) Refusal). verdict_says x (arrangement_of p)) q
 
-  pub verdict-gives : v ≡ verdict.Given → Whole p → GoodRecord p
-  verdict-gives q l = holds_taken p (arrangement_of p) l (sym says ∙ ap (λ (x : Verdict). verdict_says x (arrangement_of p)) q)
+  pub verdict-gives : (u : Unit {0}) → v ≡ Ok u → Whole p → GoodRecord p
+  verdict-gives u q l = holds_taken p (arrangement_of p) l (sym says ∙ ap (λ (x : Result (Unit {0}) Refusal). verdict_says x (arrangement_of p)) q)

@@ -7,23 +7,15 @@
 --   Whole p    the record has all its entries, as each of a program has
 --   GoodRecord p    the record holds a permutation, not longer than the capacity, and nothing but zeros past it
 --   Agree p q    both do, and they have one length
---   verdict_says v a    what a verdict means that stands beside the value a
---   signature_says, arranged_says    what each case of an answer means
---   record_beside s    the record beside the verdict: that of the list, and after a refusal that of the empty one
---   refusal e, giving p    the answers that refuse, and that give a record
---   Arranges s r    the answer r says s, and holds the record that belongs to it
-use Rattle.std.specs.Prelude.{◌≡◌, Bool, true, false, List, [], ◌∷◌, ◌++◌, ℕ, ◌≤◌, eqb, length, take, drop, get_or, replicate}
+--   verdict_says v a    the value a, or why the verdict v refuses
+--   arranged_says r    what a result is as a list
+--   recorded s    the record of the list that is said, or why there is none
+use Rattle.std.specs.Prelude.{Result, ◌≡◌, Bool, true, false, List, [], ◌∷◌, ◌++◌, ℕ, ◌≤◌, eqb, length, take, drop, get_or, replicate}
 use Rattle.words.specs.Pick.{pick}
 use Rattle.arrangements.specs.Permutation.{Permutation as IsPermutation}
 use Rattle.answers.specs.declared.Refusal.{Refusal}
-use Rattle.answers.specs.declared.Sign.{Sign}
-use Rattle.answers.specs.Says.{Says, refuses_with, gives, number_of, carried_by}
+use Rattle.answers.specs.Says.{Says, gives, and_then, answer_says}
 use Rattle.permutation.specs.declared.Permutation.{Permutation}
-use Rattle.permutation.specs.declared.Signature.{Signature}
-use Rattle.permutation.specs.declared.Signature.TheVariants as signs
-use Rattle.permutation.specs.declared.Verdict.{Verdict}
-use Rattle.permutation.specs.declared.Verdict.TheVariants as verdict
-use Rattle.permutation.specs.declared.Arranged.{Arranged}
 
 abbrev pub capacity : ℕ
 capacity = 64
@@ -54,30 +46,16 @@ pub record Agree (p q : Permutation) : Type 0 where
   pub right : GoodRecord q
   pub lengths : p.len ≡ q.len
 
--- ---- what each case of an answer means
+-- ---- what the result of a call means
 
-abbrev pub verdict_says : {A : Type 0} → Verdict → A → Says A
-verdict_says verdict.Given a = gives a
-verdict_says (verdict.Refused e) a = refuses_with (number_of e) (carried_by e)
+-- the value a, or why the verdict refuses
+abbrev pub verdict_says : {A : Type 0} → Result (Unit {0}) Refusal → A → Says A
+verdict_says v a = and_then (answer_says v) (λ u. gives a)
 
-abbrev pub signature_says : Signature → Says Sign
-signature_says (signs.Is s) = gives s
-signature_says (signs.Refused e) = refuses_with (number_of e) (carried_by e)
+-- a record that is an answer, as its list
+abbrev pub arranged_says : Result Permutation Refusal → Says (List ℕ)
+arranged_says r = and_then (answer_says r) (λ p. gives (arrangement_of p))
 
-abbrev pub arranged_says : Arranged → Says (List ℕ)
-arranged_says r = verdict_says r.verdict (arrangement_of r.value)
-
-abbrev pub record_beside : Says (List ℕ) → Permutation
-record_beside (refuses_with e c) = record_of []
-record_beside (gives w) = record_of w
-
--- the answers that refuse with e, and that give p
-abbrev pub refusal : Refusal → Arranged
-refusal e = record { verdict = verdict.Refused e; value = record_of [] }
-
-abbrev pub giving : Permutation → Arranged
-giving p = record { verdict = verdict.Given; value = p }
-
-pub record Arranges (s : Says (List ℕ)) (r : Arranged) : Type 0 where
-  pub says : arranged_says r ≡ s
-  pub value : r.value ≡ record_beside s
+-- the record of what is said
+abbrev pub recorded : Says (List ℕ) → Says Permutation
+recorded s = and_then s (λ w. gives (record_of w))

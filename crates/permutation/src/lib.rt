@@ -5,10 +5,10 @@
 ghost use Rattle.std.specs.Prelude.{◌≡◌, ◌≤◌, length, take, drop};
 ghost use Rattle.answers.specs.Says.{answer_says};
 ghost use Rattle.arrangements.specs.Permutation.{is_permutation};
-ghost use Rattle.permutation.specs.Record.{capacity, zeros_only, arrangement_of, verdict_says, refusal, giving};
+ghost use Rattle.permutation.specs.Record.{capacity, zeros_only, arrangement_of, verdict_says};
 ghost use Rattle.permutation.specs.Rules.{is_good, taken_arrangement, image_says};
 
-use answers::{Answer, Refusal, Sign};
+use answers::Refusal;
 
 // How many entries a record holds, and so the greatest length.
 pub const CAPACITY: usize = 64;
@@ -21,35 +21,13 @@ pub struct Permutation {
     pub len: u64,
 }
 
-// A sign, or why there is none.
-#[derive(Clone, Copy)]
-pub enum Signature {
-    Is(Sign),
-    Refused(Refusal),
-}
-
-// Whether there is an answer, or why there is none.
-#[derive(Clone, Copy)]
-pub enum Verdict {
-    Given,
-    Refused(Refusal),
-}
-
-// A permutation, or why there is none; then the record beside the verdict is the empty one.
-#[derive(Clone, Copy)]
-pub struct Arranged {
-    pub verdict: Verdict,
-    pub value: Permutation,
-}
-
 // Whether the first n entries are a bijection of 0 .. n-1: each is held against the set of those seen.
 fn is_permutation(entries: &[u64; CAPACITY], n: u64) -> bool
     requires { (n ≤ capacity) × (length entries.now ≡ capacity) }
     ensures { result ≡ is_permutation (take n entries.now) }
 {
     let mut seen = 0u64;
-    let mut i = 0u64;
-    while i < n {
+    for i in 0..n {
         let x = entries[i as usize];
         if x >= n {
             return false;
@@ -59,7 +37,6 @@ fn is_permutation(entries: &[u64; CAPACITY], n: u64) -> bool
             return false;
         }
         seen = seen | one;
-        i += 1;
     }
     true
 }
@@ -70,11 +47,8 @@ fn nothing_past(entries: &[u64; CAPACITY], n: u64) -> bool
     ensures { result ≡ zeros_only (drop n entries.now) }
 {
     let mut all = 0u64;
-    let mut i = n;
-    while i < CAPACITY as u64 {
-        let x = entries[i as usize];
-        all = all | x;
-        i += 1;
+    for x in &entries[n as usize..] {
+        all = all | *x;
     }
     if all == 0 {
         return true;
@@ -93,57 +67,29 @@ pub fn is_good(entries: &[u64; CAPACITY], n: u64) -> bool
     nothing_past(entries, n)
 }
 
-// The answer that refuses: beside it stands the empty permutation.
-pub fn refused(e: Refusal) -> Arranged
-    ensures { result ≡ refusal e }
-{
-    let none = Permutation {
-        entries: [0u64; CAPACITY],
-        len: 0,
-    };
-    Arranged {
-        verdict: Verdict::Refused(e),
-        value: none,
-    }
-}
-
-// The answer that gives p.
-pub fn given(p: Permutation) -> Arranged
-    ensures { result ≡ giving p }
-{
-    Arranged {
-        verdict: Verdict::Given,
-        value: p,
-    }
-}
-
 // 1 if the length passes the capacity, 10 if it is not the record of a permutation.
-pub fn checked(p: Permutation) -> Verdict
+pub fn checked(p: Permutation) -> Result<(), Refusal>
     ensures { verdict_says result (arrangement_of p) ≡ taken_arrangement p }
 {
     let n = p.len;
     if n > CAPACITY as u64 {
-        return Verdict::Refused(Refusal::TooWide);
+        return Err(Refusal::TooWide);
     }
     let entries = p.entries;
     if is_good(&entries, n) {
-        return Verdict::Given;
+        return Ok(());
     }
-    Verdict::Refused(Refusal::NotAPermutation)
+    Err(Refusal::NotAPermutation)
 }
 
 // The image of place i: 1 and 10 of the record, then 7 if there is no such place.
-pub fn image(p: Permutation, i: u64) -> Answer
+pub fn image(p: Permutation, i: u64) -> Result<u64, Refusal>
     ensures { answer_says result ≡ image_says p i }
 {
-    match checked(p) {
-        Verdict::Refused(e) => Answer::Refused(e),
-        Verdict::Given => {
-            let n = p.len;
-            if i >= n {
-                return Answer::Refused(Refusal::Outside);
-            }
-            Answer::Is(p.entries[i as usize])
-        }
+    checked(p)?;
+    let n = p.len;
+    if i >= n {
+        return Err(Refusal::Outside);
     }
+    Ok(p.entries[i as usize])
 }

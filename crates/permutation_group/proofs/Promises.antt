@@ -7,6 +7,7 @@
 --   inverse_gives_a_whole_record, compose_gives_a_whole_record    a record that is given has all its entries
 --   inverse_is_taken, composition_is_taken    and is taken by every call
 --   sign_of_composition, sign_of_inverse    the sign of a composition is the product of the signs; that of the inverse is the sign
+use Rattle.std.specs.Prelude.{Result, Ok}
 use mathlib.Core.Path.{◌≡◌, sym, ap, ap₂, subst⁻¹, ◌∙◌}
 use mathlib.Core.Logic.{◌↔◌}
 use mathlib.Core.Bool.{not}
@@ -21,18 +22,18 @@ use Rattle.words.specs.Inversions.{inversions, parity}
 use Rattle.arrangements.specs.Permutation.{Permutation as IsPermutation, identity, compose, inverse}
 use Rattle.arrangements.proofs.Group.{compose_at, compose_associative, compose_is_a_permutation, inverse-is-a-permutation, compose-inverse, inverse-compose}
 use Rattle.arrangements.proofs.Sign.{parity_of_compose, parity_of_inverse}
+use Rattle.answers.specs.declared.Refusal.{Refusal}
 use Rattle.answers.specs.declared.Sign.{Sign}
-use Rattle.answers.specs.Says.{gives}
+use Rattle.answers.specs.Says.{gives, answer_says}
 use Rattle.answers.specs.Signs.{sign_of, times}
 use Rattle.answers.proofs.Says.{gives_same, passed, then_gave}
 use Rattle.answers.proofs.Signs.{sign_of_parity, times_of_sum}
 use Rattle.permutation.specs.declared.Permutation.{Permutation}
-use Rattle.permutation.specs.declared.Arranged.{Arranged}
-use Rattle.permutation.specs.Record.{capacity, arrangement_of, record_of, Whole, GoodRecord, Agree, Arranges}
+use Rattle.permutation.specs.Record.{capacity, arrangement_of, record_of, Whole, GoodRecord, Agree, recorded}
 use Rattle.permutation.specs.Rules.{too_long, is_good, not_a_permutation, taken_arrangement}
 use Rattle.permutation_group.specs.Rules.{inverse_says, compose_says, sign_says}
 use Rattle.permutation.proofs.Taken.{tested_holds, holds_good, taken_holds, holds_taken}
-use Rattle.permutation.proofs.Arranging.{word_of_record, record_holds, arranged_is_whole}
+use Rattle.permutation.proofs.Arranging.{word_of_record, record_holds, recorded-whole}
 use Rattle.permutation.proofs.Promises.{given_is_taken}
 
 -- ---- composition
@@ -132,13 +133,13 @@ composition_is_associative p q r l m k u v e f =
 
 -- ---- the records that are given
 
-pub inverse_gives_a_whole_record : (p : Permutation) → Whole p → (r : Arranged) → Arranges (inverse_says p) r → Whole r.value
+pub inverse_gives_a_whole_record : (p : Permutation) → Whole p → (r : Result Permutation Refusal) → answer_says r ≡ recorded (inverse_says p) → (q : Permutation) → r ≡ Ok q → Whole q
 inverse_gives_a_whole_record p l r a =
-    arranged_is_whole (inverse_says p) r (λ v e. omega (arith, (inverse_given p l v e).0.short, (inverse-of-a-permutation p l v e).long)) a
+    recorded-whole (inverse_says p) r a (λ v e. omega (arith, (inverse_given p l v e).0.short, (inverse-of-a-permutation p l v e).long))
 
-pub compose_gives_a_whole_record : (p q : Permutation) → Whole p → Whole q → (r : Arranged) → Arranges (compose_says p q) r → Whole r.value
+pub compose_gives_a_whole_record : (p q : Permutation) → Whole p → Whole q → (r : Result Permutation Refusal) → answer_says r ≡ recorded (compose_says p q) → (v : Permutation) → r ≡ Ok v → Whole v
 compose_gives_a_whole_record p q l m r a =
-    arranged_is_whole (compose_says p q) r (λ w e. omega (arith, (compose_given p q l m w e).left.short, (composition-is-a-permutation p q l m w e).long)) a
+    recorded-whole (compose_says p q) r a (λ w e. omega (arith, (compose_given p q l m w e).left.short, (composition-is-a-permutation p q l m w e).long))
 
 pub inverse_is_taken : (p : Permutation) → Whole p → (v : List ℕ) → inverse_says p ≡ gives v → taken_arrangement (record_of v) ≡ gives v
 inverse_is_taken p l v e = given_is_taken p.len v (inverse-of-a-permutation p l v e) (inverse_given p l v e).0.short

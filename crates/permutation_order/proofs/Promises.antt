@@ -12,6 +12,7 @@
 --   last-exactly    4 exactly at the identity
 --   unrank_gives_a_whole_record, successor_gives_a_whole_record    a record that is given has all its entries
 --   unranked_is_taken, successor_is_taken    and is taken by every call
+use Rattle.std.specs.Prelude.{Result, Ok}
 use mathlib.Core.Path.{◌≡◌, refl, sym, ap, subst, subst⁻¹, ◌∙◌}
 use mathlib.Core.Logic.{◌↔◌}
 use mathlib.Core.Bool.{Bool, true, false}
@@ -32,13 +33,13 @@ use Rattle.arrangements.proofs.Counted.{rank_is_below, rank_is_how_many_earlier}
 use Rattle.arrangements.proofs.Ends.{descending_is_a_permutation, descending-rank, identity-rank, last_is_identity}
 use Rattle.arrangements.proofs.Group.{identity_is_a_permutation}
 use Rattle.arrangements.proofs.Next.{next_is_later, nothing-between}
-use Rattle.answers.specs.Says.{refuses, gives, refused_if}
+use Rattle.answers.specs.declared.Refusal.{Refusal}
+use Rattle.answers.specs.Says.{refuses, gives, refused_if, answer_says}
 use Rattle.answers.proofs.Says.{gives_same, refuses_same, gives_no_refusal, passed, then_gave}
 use Rattle.permutation.specs.declared.Permutation.{Permutation}
-use Rattle.permutation.specs.declared.Arranged.{Arranged}
-use Rattle.permutation.specs.Record.{arrangement_of, record_of, Whole, Arranges}
+use Rattle.permutation.specs.Record.{arrangement_of, record_of, Whole, recorded}
 use Rattle.permutation.specs.Rules.{taken_arrangement}
-use Rattle.permutation.proofs.Arranging.{word_of_record, record_holds, arranged_is_whole}
+use Rattle.permutation.proofs.Arranging.{word_of_record, record_holds, recorded-whole}
 use Rattle.permutation.proofs.Promises.{Judged, long, broken, held, judged, too_long_exactly, past_the_length_is_refused, given_is_taken}
 use Rattle.permutation_order.specs.Rules.{longest_numbered, unnumbered, numbered, Ordered, arrangement_rank_says, arrangement_unrank_says, arrangement_successor_says}
 use Rattle.permutation_order.proofs.Numbering.{ordered-numbered, numbered-ordered}
@@ -188,13 +189,13 @@ module _ (p : Permutation) (l : Whole p) where
 
 -- ---- the records that are given
 
-pub unrank_gives_a_whole_record : (n r : ℕ) (a : Arranged) → Arranges (arrangement_unrank_says n r) a → Whole a.value
+pub unrank_gives_a_whole_record : (n r : ℕ) (a : Result Permutation Refusal) → answer_says a ≡ recorded (arrangement_unrank_says n r) → (p : Permutation) → a ≡ Ok p → Whole p
 unrank_gives_a_whole_record n r a h =
-    arranged_is_whole (arrangement_unrank_says n r) a (λ w e. let t = (unrank_exactly n r w).0 e in omega (arith, t.0, t.1.long)) h
+    recorded-whole (arrangement_unrank_says n r) a h (λ w e. let t = (unrank_exactly n r w).0 e in omega (arith, t.0, t.1.long))
 
-pub successor_gives_a_whole_record : (p : Permutation) → Whole p → (r : Arranged) → Arranges (arrangement_successor_says p) r → Whole r.value
+pub successor_gives_a_whole_record : (p : Permutation) → Whole p → (r : Result Permutation Refusal) → answer_says r ≡ recorded (arrangement_successor_says p) → (q : Permutation) → r ≡ Ok q → Whole q
 successor_gives_a_whole_record p l r h =
-    arranged_is_whole (arrangement_successor_says p) r (λ w e. let t = (successor-exactly p l w).0 e in omega (arith, t.0.holds.short, t.1.long)) h
+    recorded-whole (arrangement_successor_says p) r h (λ w e. let t = (successor-exactly p l w).0 e in omega (arith, t.0.holds.short, t.1.long))
 
 pub unranked_is_taken : (n r : ℕ) (w : List ℕ) → arrangement_unrank_says n r ≡ gives w → taken_arrangement (record_of w) ≡ gives w
 unranked_is_taken n r w e = let t = (unrank_exactly n r w).0 e in given_is_taken n w t.1 (omega (arith, t.0))

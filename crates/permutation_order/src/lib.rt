@@ -7,22 +7,22 @@ ghost use Rattle.words.specs.Factorial.{factorial as factorial_of};
 ghost use Rattle.answers.specs.Says.{answer_says};
 ghost use Rattle.arrangements.specs.Rank.{arrangement_rank, raise, lastly, arrangement_unrank};
 ghost use Rattle.arrangements.specs.Step.{FirstFall, FirstGreater, turn, exchange, step};
-ghost use Rattle.permutation.specs.Record.{capacity, arrangement_of, record_of, GoodRecord, verdict_says, Arranges};
+ghost use Rattle.permutation.specs.Record.{capacity, arrangement_of, record_of, GoodRecord, verdict_says, recorded};
 ghost use Rattle.permutation_order.specs.Rules.{longest_numbered, held, numbered as numbered_of, arrangement_rank_says, arrangement_unrank_says, arrangement_successor_says};
 
-use answers::{Answer, Refusal};
-use permutation::{Arranged, CAPACITY, Permutation, Verdict};
+use answers::Refusal;
+use permutation::{CAPACITY, Permutation};
 
 // The greatest length whose permutations are numbered: 20! is the last factorial that fits.
 pub const LONGEST: u64 = 20;
 
 // 1 if the length is above those that are numbered; 1 and 10 of the record.
-fn numbered(p: Permutation) -> Verdict
+fn numbered(p: Permutation) -> Result<(), Refusal>
     ensures { verdict_says result (arrangement_of p) ≡ numbered_of p }
 {
     let n = p.len;
     if n > LONGEST {
-        return Verdict::Refused(Refusal::TooWide);
+        return Err(Refusal::TooWide);
     }
     permutation::checked(p)
 }
@@ -36,25 +36,21 @@ fn weight(p: Permutation) -> u64
     let mut seen = 0u64;
     let mut factorial = 1u64;
     let mut sum = 0u64;
-    let mut j = 0u64;
-    while j < n {
+    for j in 0..n {
         let x = p.entries[j as usize];
         sum += bits::below(seen, x) * factorial;
         seen += 1u64 << x;
-        j += 1;
-        factorial *= j;
+        factorial *= j + 1;
     }
     sum
 }
 
 // The rank among the permutations of its length, in colex order: 1 and 10 of the record.
-pub fn rank(p: Permutation) -> Answer
+pub fn rank(p: Permutation) -> Result<u64, Refusal>
     ensures { answer_says result ≡ arrangement_rank_says p }
 {
-    match numbered(p) {
-        Verdict::Refused(e) => Answer::Refused(e),
-        Verdict::Given => Answer::Is(weight(p)),
-    }
+    numbered(p)?;
+    Ok(weight(p))
 }
 
 // x, raised by one from d up: so nothing is d.
@@ -73,11 +69,9 @@ fn make_room(entries: &mut [u64; CAPACITY], n: u64, d: u64)
     requires { GoodRecord (held entries.old n) × (length entries.old ≡ capacity) × (n < longest_numbered) }
     ensures { held entries.new (n + 1) ≡ record_of (lastly d (arrangement_of (held entries.old n))) }
 {
-    let mut i = 0u64;
-    while i < n {
+    for i in 0..n {
         let x = entries[i as usize];
         entries[i as usize] = raised(d, x);
-        i += 1;
     }
     entries[n as usize] = d;
 }
@@ -89,27 +83,25 @@ fn unranked(n: u64, r: u64) -> Permutation
 {
     let mut entries = [0u64; CAPACITY];
     let mut rest = r;
-    let mut j = 0u64;
-    while j < n {
+    for j in 0..n {
         let k = j + 1;
         make_room(&mut entries, j, rest % k);
         rest = rest / k;
-        j = k;
     }
     Permutation { entries, len: n }
 }
 
 // The permutation of n entries of rank r: 1 for n, 3 if there are not so many.
-pub fn unrank(n: u64, r: u64) -> Arranged
-    ensures { Arranges (arrangement_unrank_says n r) result }
+pub fn unrank(n: u64, r: u64) -> Result<Permutation, Refusal>
+    ensures { answer_says result ≡ recorded (arrangement_unrank_says n r) }
 {
     if n > LONGEST {
-        return permutation::refused(Refusal::TooWide);
+        return Err(Refusal::TooWide);
     }
     if r >= count::factorial(n) {
-        return permutation::refused(Refusal::NoSuchRank);
+        return Err(Refusal::NoSuchRank);
     }
-    permutation::given(unranked(n, r))
+    Ok(unranked(n, r))
 }
 
 // The lowest place whose entry is smaller than the one before it; the length if all entries rise.
@@ -118,13 +110,11 @@ fn first_fall(p: Permutation) -> u64
     ensures { FirstFall p.len (arrangement_of p) result }
 {
     let n = p.len;
-    let mut k = 1u64;
-    while k < n {
+    for k in 1..n {
         let before = k - 1;
         if p.entries[k as usize] < p.entries[before as usize] {
             return k;
         }
-        k += 1;
     }
     n
 }
@@ -135,12 +125,10 @@ fn first_greater(p: Permutation, k: u64) -> u64
     ensures { FirstGreater (arrangement_of p) k result }
 {
     let x = p.entries[k as usize];
-    let mut i = 0u64;
-    while i < k {
+    for i in 0..k {
         if x < p.entries[i as usize] {
             return i;
         }
-        i += 1;
     }
     k
 }
@@ -175,11 +163,9 @@ fn stepped(p: Permutation, i: u64, k: u64) -> Permutation
 {
     let n = p.len;
     let mut out = [0u64; CAPACITY];
-    let mut j = 0u64;
-    while j < n {
+    for j in 0..n {
         let from = exchanged(i, k, turned(k, j));
         out[j as usize] = p.entries[from as usize];
-        j += 1;
     }
     Permutation {
         entries: out,
@@ -188,19 +174,15 @@ fn stepped(p: Permutation, i: u64, k: u64) -> Permutation
 }
 
 // The next permutation in colex order: 1 and 10 of the record, 4 if there is none.
-pub fn successor(p: Permutation) -> Arranged
-    ensures { Arranges (arrangement_successor_says p) result }
+pub fn successor(p: Permutation) -> Result<Permutation, Refusal>
+    ensures { answer_says result ≡ recorded (arrangement_successor_says p) }
 {
-    match numbered(p) {
-        Verdict::Refused(e) => permutation::refused(e),
-        Verdict::Given => {
-            let n = p.len;
-            let k = first_fall(p);
-            if k == n {
-                return permutation::refused(Refusal::Last);
-            }
-            let i = first_greater(p, k);
-            permutation::given(stepped(p, i, k))
-        }
+    numbered(p)?;
+    let n = p.len;
+    let k = first_fall(p);
+    if k == n {
+        return Err(Refusal::Last);
     }
+    let i = first_greater(p, k);
+    Ok(stepped(p, i, k))
 }

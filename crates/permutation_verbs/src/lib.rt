@@ -6,9 +6,8 @@
 ghost use Rattle.std.specs.Prelude.{◌≤◌};
 ghost use Rattle.permutation.specs.Record.{capacity};
 
-use answers::Answer;
-use permutation::{Arranged, CAPACITY, Permutation, Verdict};
-use replies::Reply;
+use permutation::{CAPACITY, Permutation};
+use replies::{Answered, Reply};
 
 // How many of n entries a record holds.
 fn held(n: usize) -> usize
@@ -24,10 +23,8 @@ fn held(n: usize) -> usize
 fn record(list: &[u64], len: u64) -> Permutation {
     let mut entries = [0u64; CAPACITY];
     let n = held(list.len());
-    let mut i = 0;
-    while i < n {
+    for i in 0..n {
         entries[i] = list[i];
-        i += 1;
     }
     Permutation { entries, len }
 }
@@ -59,25 +56,15 @@ fn operand(raw: bool, list: &[u64]) -> Permutation {
 // Writes the entries of a record into the first places.
 fn write(entries: [u64; CAPACITY], places: &mut [u64]) {
     let n = held(places.len());
-    let mut i = 0;
-    while i < n {
+    for i in 0..n {
         places[i] = entries[i];
-        i += 1;
     }
 }
 
 // The reply that gives a permutation: its entries are written into the first places.
-fn give(a: Arranged, places: &mut [u64]) -> Reply {
-    let verdict = a.verdict;
-    match verdict {
-        Verdict::Given => {
-            let p = a.value;
-            let entries = p.entries;
-            write(entries, places);
-            Reply::Places(Answer::Is(p.len))
-        }
-        Verdict::Refused(e) => Reply::Places(Answer::Refused(e)),
-    }
+fn give(p: Permutation, places: &mut [u64]) -> Answered {
+    write(p.entries, places);
+    Ok(Some(Reply::Places(p.len)))
 }
 
 // Whether the words of a permutation are not too many: after raw and the length at most as many entries as a record has.
@@ -114,14 +101,14 @@ fn asks_two(verb: &[u8], kinds: &[u8]) -> bool {
 }
 
 // The requests that are answered by a number or a sign.
-fn of_record(verb: &[u8], kinds: &[u8], values: &[u64]) -> Reply {
+fn of_record(verb: &[u8], kinds: &[u8], values: &[u64]) -> Answered {
     if asks_one(verb, kinds, b"permrank *", b"permrank rn*", CAPACITY + 2) {
         let p = operand(is_raw(kinds, 0), requests::list(values, 0));
-        return Reply::Number(permutation_order::rank(p));
+        return Ok(Some(Reply::Number(permutation_order::rank(p)?)));
     }
     if asks_one(verb, kinds, b"permsign *", b"permsign rn*", CAPACITY + 2) {
         let p = operand(is_raw(kinds, 0), requests::list(values, 0));
-        return Reply::Sign(permutation_group::sign(p));
+        return Ok(Some(Reply::Sign(permutation_group::sign(p)?)));
     }
     if asks_one(
         verb,
@@ -131,29 +118,29 @@ fn of_record(verb: &[u8], kinds: &[u8], values: &[u64]) -> Reply {
         CAPACITY + 4,
     ) {
         let p = operand(is_raw(kinds, 2), requests::list(values, 2));
-        return Reply::Number(permutation::image(p, requests::number(values, 0)));
+        return Ok(Some(Reply::Number(permutation::image(p, requests::number(values, 0))?)));
     }
-    Reply::Bad
+    Ok(None)
 }
 
 // The composition, if neither permutation has too many words.
-fn composed(kinds: &[u8], values: &[u64], places: &mut [u64]) -> Reply {
+fn composed(kinds: &[u8], values: &[u64], places: &mut [u64]) -> Answered {
     let slash = requests::slash(kinds);
     let left = is_raw(kinds, 0);
     let right = is_raw_after(kinds, slash);
     if !is_short(left, requests::list_before(values, slash)) {
-        return Reply::Bad;
+        return Ok(None);
     }
     if !is_short(right, requests::list_after(values, slash)) {
-        return Reply::Bad;
+        return Ok(None);
     }
     let p = operand(left, requests::list_before(values, slash));
     let q = operand(right, requests::list_after(values, slash));
-    give(permutation_group::compose(p, q), places)
+    give(permutation_group::compose(p, q)?, places)
 }
 
 // The requests that are answered by a permutation.
-fn arranged(verb: &[u8], kinds: &[u8], values: &[u64], places: &mut [u64]) -> Reply {
+fn arranged(verb: &[u8], kinds: &[u8], values: &[u64], places: &mut [u64]) -> Answered {
     if asks_one(
         verb,
         kinds,
@@ -162,29 +149,28 @@ fn arranged(verb: &[u8], kinds: &[u8], values: &[u64], places: &mut [u64]) -> Re
         CAPACITY + 2,
     ) {
         let p = operand(is_raw(kinds, 0), requests::list(values, 0));
-        return give(permutation_group::inverse(p), places);
+        return give(permutation_group::inverse(p)?, places);
     }
     if asks_one(verb, kinds, b"permnext *", b"permnext rn*", CAPACITY + 2) {
         let p = operand(is_raw(kinds, 0), requests::list(values, 0));
-        return give(permutation_order::successor(p), places);
+        return give(permutation_order::successor(p)?, places);
     }
     if requests::asks(verb, kinds, b"permunrank nn") {
         let n = requests::number(values, 0);
         let r = requests::number(values, 1);
-        return give(permutation_order::unrank(n, r), places);
+        return give(permutation_order::unrank(n, r)?, places);
     }
     if asks_two(verb, kinds) {
         return composed(kinds, values, places);
     }
-    Reply::Bad
+    Ok(None)
 }
 
-// The answer to a request on permutations; bad if it is none. A permutation is given as a record and no output is lent for it, so its
+// The answer to a request on permutations; none if it is another. A permutation is given as a record and no output is lent for it, so its
 // entries go into the first of all places.
-pub fn reply(verb: &[u8], kinds: &[u8], values: &[u64], places: &mut [u64]) -> Reply {
-    let r = of_record(verb, kinds, values);
-    let Reply::Bad = r else {
-        return r;
-    };
+pub fn reply(verb: &[u8], kinds: &[u8], values: &[u64], places: &mut [u64]) -> Answered {
+    if let Some(r) = of_record(verb, kinds, values)? {
+        return Ok(Some(r));
+    }
     arranged(verb, kinds, values, places)
 }

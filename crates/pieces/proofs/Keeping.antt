@@ -1,22 +1,13 @@
 -- How much of a piece is kept. Assumes nothing.
---   room_none, room-part, room_all    the room by what the code tests
 --   room_fits    a byte that is kept has a place below 772 and stands in the piece
---   more-past, more-over, more-within    the bytes seen by what the code tests
 use mathlib.Core.Path.{◌≡◌, refl}
 use mathlib.Core.Bool.{Bool, true, false}
-use Prim.Native.Nat.{ℕ, ◌+◌, ◌-◌, ◌≤◌, ◌<◌}
+use Prim.Native.Nat.{ℕ, ◌+◌, ◌-◌, ◌<◌}
 use native.Mathlib.Omega.{arith}
 use borrow.Author.Tests.{ltb-true, ltb-false}
 use lib.Dec.{ltb}
 use Rattle.words.specs.Pick.{pick}
 use Rattle.pieces.specs.Pieces.{room}
-
-pub room_none : (at n : ℕ) → 772 ≤ at → 0 ≡ room at n
-room_none at n h = go (ltb (772 - at) n) refl
-  where
-    go : (t : Bool) → ltb (772 - at) n ≡ t → 0 ≡ pick t (772 - at) n
-    go true e = omega arith
-    go false e = omega (arith, ltb-false (772 - at) n e)
 
 pub room_fits : (at n i : ℕ) → i < room at n → (at + i < 772) × (i < n)
 room_fits at n i = go (ltb (772 - at) n) refl

@@ -6,8 +6,6 @@ ghost use Rattle.std.proofs.Math.Seq.{paste};
 ghost use Rattle.image_rules.specs.Image.{check_says};
 ghost use Rattle.pieces.specs.Pieces.{room as room_of, more as more_of, told, ended, start as start_of, fed, closed};
 
-use answers::Answer;
-
 // Open while more may come; at the end the number of tables, or the offset of the first wrong field.
 #[derive(Clone, Copy)]
 pub enum Verdict {
@@ -53,10 +51,8 @@ fn keep(bytes: [u8; 772], at: u64, piece: &[u8]) -> [u8; 772]
 {
     let n = room(at, piece.len() as u64);
     let mut kept = bytes;
-    let mut i = 0u64;
-    while i < n {
+    for i in 0..n {
         kept[(at + i) as usize] = piece[i as usize];
-        i += 1;
     }
     kept
 }
@@ -66,8 +62,8 @@ fn so_far(bytes: [u8; 772], seen: u64) -> Verdict
     ensures { result ≡ told (check_says bytes seen) seen }
 {
     match image_check::check_within(&bytes, seen) {
-        Answer::Is(_) => Verdict::Open,
-        Answer::Refused(e) => {
+        Ok(_) => Verdict::Open,
+        Err(e) => {
             let at = answers::place(e);
             if at < seen {
                 return Verdict::Bad(at);
@@ -82,8 +78,8 @@ fn at_last(bytes: [u8; 772], seen: u64) -> Verdict
     ensures { result ≡ ended (check_says bytes seen) }
 {
     match image_check::check_within(&bytes, seen) {
-        Answer::Is(t) => Verdict::Good(t),
-        Answer::Refused(e) => Verdict::Bad(answers::place(e)),
+        Ok(t) => Verdict::Good(t),
+        Err(e) => Verdict::Bad(answers::place(e)),
     }
 }
 

@@ -6,6 +6,7 @@
 --   where-only-wide-answers-narrow-says-no-such-rank    where only m succeeds, n answers 3
 --   where-wide-word-is-not-below-narrow-says-no-such-rank    the same, by the word that m gives
 --   narrow-walk-is-the-start-of-wide-walk    both walks start; that over n gives the first words of that over m, then ends
+use Rattle.std.specs.Prelude.{Some, None}
 use mathlib.Core.Path.{◌≡◌, refl, sym, ap, subst, ◌∙◌}
 use mathlib.Core.Logic.{◌↔◌}
 use mathlib.Core.List.{List, [], ◌∷◌}
@@ -25,7 +26,6 @@ use Rattle.words.specs.Next.{first}
 use Rattle.words.proofs.Unrank.{below_n_exactly_when_rank_below_count}
 use Rattle.answers.specs.Says.{refuses, gives, and_then}
 use Rattle.answers.specs.Terms.{index_of}
-use Rattle.monotone_walk.specs.declared.Current.TheVariants.{At, Nothing}
 use Rattle.monotone_walk.specs.declared.Walk.{Walk}
 use Rattle.monotone_count.specs.Rules.{count_says, walk_says}
 use Rattle.monotone_unrank.specs.Rules.{unrank_says}
@@ -92,7 +92,7 @@ module _ (F : Family) (n m k : ℕ) (degree : k ≤ 64) (smaller : n ≤ m) (wid
   starts a h = (begun (count F a k), ap (λ s. and_then s (λ c. gives (begun c))) (count_gives F a k degree h))
     where
       begun : ℕ → Walk
-      begun c = record { current = pick (eqb c 0) Nothing (At (index_of F a (first F k))); remaining = c }
+      begun c = record { current = pick (eqb c 0) None (Some (index_of F a (first F k))); remaining = c }
 
   -- the walk over n goes through the first words of the walk over m, however many steps d are asked for, and then ends
   prefix : (s t : Walk) (d : ℕ) → walk_says F n k ≡ gives s → walk_says F m k ≡ gives t → listing d s ≡ take (count F n k) (listing d t)

@@ -15,7 +15,7 @@ use Rattle.words.specs.declared.Family.TheVariants.{Allowed}
 use Rattle.words.specs.Word.{shifted_alphabet}
 use Rattle.answers.specs.declared.Index.{Index}
 use Rattle.answers.specs.declared.Sign.TheVariants.{Plus}
-use Rattle.answers.specs.Says.{Says, gives, refused_if, and_then, SignedTerm}
+use Rattle.answers.specs.Says.{Says, gives, refused_if, and_then}
 use Rattle.answers.specs.Terms.{index_of, word_of}
 use Rattle.answers.proofs.Says.{gives_same, passed}
 use Rattle.answers.proofs.Terms.{word_of_index}
@@ -31,6 +31,7 @@ use Rattle.composition.proofs.Exponents.{spelled_long, spelled_is_a_word, added_
 use Rattle.composition.proofs.Checks.{wide_not}
 use Rattle.composition.proofs.Promises.{spelled_of_added}
 use Rattle.promises.proofs.Records.{packed-accepted}
+use Rattle.answers.specs.declared.SignedTerm.{SignedTerm}
 
 -- the index of the word of exponents, over as many symbols as there are entries
 abbrev of_exponents : List ℕ → Index

@@ -5,6 +5,7 @@
 --   packed-accepted, unranked-accepted, unranked_any_accepted, successor_accepted, started-accepted, stepped-accepted    every index that a call gives is an
 --     accepted record, over the alphabet that its rule names. Those with a sign stand with their calls: `canonical_term` and `merged-term` in algebra,
 --     `deletion_accepted` and `complement_accepted` in deletion
+use Rattle.std.specs.Prelude.{Option, Some, None}
 use mathlib.Core.Path.{◌≡◌, refl, sym, ap, subst, ◌∙◌}
 use mathlib.Core.Bool.{Bool, true, false, not}
 use mathlib.Core.List.{List}
@@ -34,19 +35,18 @@ use Rattle.packing.proofs.Checks.{rises_is_monotone}
 use Rattle.taking.specs.Taken.{shifted_alphabet_of, Accepted}
 use Rattle.taking.proofs.Accepted.{accepted_is_a_word, index-accepted, taken-accepted, taken_gives}
 use Rattle.monotone_walk.specs.declared.Walk.{Walk}
-use Rattle.monotone_walk.specs.declared.Current.{Current}
-use Rattle.monotone_walk.specs.declared.Current.TheVariants.{At, Nothing}
 use Rattle.monotone_count.specs.Rules.{count_says, walk_says}
 use Rattle.monotone.specs.Rules.{pack_says}
 use Rattle.monotone_rank.specs.Rules.{rank_says, rank_of_says}
 use Rattle.monotone_unrank.specs.Rules.{unrank_over_says, widest, unrank_any_says}
 use Rattle.monotone_walk.specs.Rules.{successor_says}
-use Rattle.monotone_walk.specs.Walks.{Moved, current, step_from, step_says}
+use Rattle.monotone_walk.specs.Walks.{current, step_from, step_says}
 use Rattle.monotone_count.proofs.Rules.{Counted, count_given}
 use Rattle.monotone.proofs.Rules.{checked_gives}
 use Rattle.monotone_unrank.proofs.Passing.{unrank_accepted}
 use Rattle.promises.proofs.Walks.{positive_of_not_zero}
 use Rattle.promises.proofs.Terms.{word-ranked, Succeeds, successor_given}
+use Rattle.monotone_walk.specs.declared.Moved.{Moved}
 
 -- ---- a record and its word
 
@@ -115,13 +115,13 @@ successor_accepted x y e =
     )
 
 -- what a walk starts at, and what a step gives and moves to
-pub started-accepted : (F : Family) (n k : ℕ) (s : Walk) (x : Index) → walk_says F n k ≡ gives s → s.current ≡ At x → Accepted x × (x.alphabet ≡ n)
+pub started-accepted : (F : Family) (n k : ℕ) (s : Walk) (x : Index) → walk_says F n k ≡ gives s → s.current ≡ Some x → Accepted x × (x.alphabet ≡ n)
 started-accepted F n k s x e f = go (then_gave (count_says F n k) (λ c. gives (begin c)) s e)
   where
     begin : ℕ → Walk
-    begin c = record { current = pick (eqb c 0) Nothing (At (index_of F n (first F k))); remaining = c }
+    begin c = record { current = pick (eqb c 0) None (Some (index_of F n (first F k))); remaining = c }
 
-    on : (c : ℕ) → Counted F n k c → (t : Bool) → eqb c 0 ≡ t → pick t Nothing (At (index_of F n (first F k))) ≡ At x → Accepted x × (x.alphabet ≡ n)
+    on : (c : ℕ) → Counted F n k c → (t : Bool) → eqb c 0 ≡ t → pick t None (Some (index_of F n (first F k))) ≡ Some x → Accepted x × (x.alphabet ≡ n)
     on c d true q g = absurd (let z : ◌≡◌ {A = ℕ} 0 1 = cc in omega arith)
     on c d false q g =
         let is : index_of F n (first F k) ≡ x = cc in (
@@ -133,21 +133,21 @@ started-accepted F n k s x e f = go (then_gave (count_says F n k) (λ c. gives (
     go t =
         on t.0 (count_given F n k t.0 t.1) (eqb t.0 0) refl (ap (λ (w : Walk). w.current) (gives_same (begin t.0) s t.2) ∙ f)
 
-pub stepped-accepted : (s : Walk) (m : Moved) → step_says s ≡ gives m → Accepted m.index × ((y : Index) → m.state.current ≡ At y → Accepted y)
+pub stepped-accepted : (s : Walk) (m : Moved) → step_says s ≡ gives m → Accepted m.index × ((y : Index) → m.state.current ≡ Some y → Accepted y)
 stepped-accepted s m e = go s.current e
   where
     given : Index → Moved
     given x = record { index = x; state = record { current = current (successor_says x); remaining = s.remaining - 1 } }
 
-    to : (x y : Index) → (r : Says Index) → successor_says x ≡ r → current r ≡ At y → Accepted y
+    to : (x y : Index) → (r : Says Index) → successor_says x ≡ r → current r ≡ Some y → Accepted y
     to x y (refuses_with d c) p g = absurd (let z : ◌≡◌ {A = ℕ} 0 1 = cc in omega arith)
     to x y (gives z) p g = let is : z ≡ y = cc in subst Accepted is (successor_accepted x z p).0
 
-    on : (x : Index) → Accepted x → given x ≡ m → Accepted m.index × ((y : Index) → m.state.current ≡ At y → Accepted y)
+    on : (x : Index) → Accepted x → given x ≡ m → Accepted m.index × ((y : Index) → m.state.current ≡ Some y → Accepted y)
     on x a p = (subst (λ (w : Moved). Accepted w.index) p a, λ y g. to x y (successor_says x) refl (ap (λ (w : Moved). w.state.current) p ∙ g))
 
-    go : (c : Current) → step_from c s.remaining ≡ gives m → Accepted m.index × ((y : Index) → m.state.current ≡ At y → Accepted y)
-    go Nothing f = absurd (gives_no_refusal m 4 (sym f))
-    go (At x) f =
+    go : (c : Option Index) → step_from c s.remaining ≡ gives m → Accepted m.index × ((y : Index) → m.state.current ≡ Some y → Accepted y)
+    go None f = absurd (gives_no_refusal m 4 (sym f))
+    go (Some x) f =
         let a = taken_gives x (refused_if (eqb s.remaining 0) 4 (gives (given x))) m f in
         on x a.0 (gives_same (given x) m (passed (eqb s.remaining 0) 4 (gives (given x)) m a.1).1)

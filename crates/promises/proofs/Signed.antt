@@ -33,10 +33,11 @@ use Rattle.merging.proofs.Sorting.{sorted_is_the_one}
 use Rattle.merging.proofs.Merging.{merged_is_sorted, merged_long}
 use Rattle.algebra.specs.Rules.{forbids, merged_words_says, merge_says}
 use Rattle.algebra.proofs.Promises.{by_words}
-use Rattle.deletion.specs.Rules.{Removed, removed_says, delete_says}
+use Rattle.deletion.specs.Rules.{removed_says, delete_says}
 use Rattle.deletion.proofs.Rules.{Gone, delete_given}
 use Rattle.deletion.proofs.Absent.{multiplicity_one}
 use Rattle.deletion.proofs.Promises.{deletion_sign, deletion_sign_allowed, deletion_put_back, deletion_accepted}
+use Rattle.deletion.specs.declared.Removed.{Removed}
 
 moved_to_front : (s p : ℕ) (v : List ℕ) → Rearranged (s ∷ v) (take p v ++ s ∷ drop p v)
 unfolding multiplicity

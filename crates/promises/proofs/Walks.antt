@@ -5,6 +5,7 @@
 --   walk_stands, step_ends    the start, and the end: after its last word a walk stands nowhere
 --   walk_lists_by_rank    d steps give the words of the ranks below d, up to the count
 --   far_step_is_by_rank    what a walk over n gives after d further steps is the index of rank d, and 4 from the count on: the steps before it need not be made
+use Rattle.std.specs.Prelude.{Some, None}
 use mathlib.Core.Path.{◌≡◌, refl, sym, ap, ap₂, ◌∙◌}
 use mathlib.Core.Bool.{Bool, true, false}
 use mathlib.Core.List.{List, ◌∷◌}
@@ -32,16 +33,16 @@ use Rattle.answers.specs.Terms.{index_of, word_of}
 use Rattle.answers.proofs.Says.{gives_same}
 use Rattle.answers.proofs.Terms.{word_of_index}
 use Rattle.monotone_walk.specs.declared.Walk.{Walk}
-use Rattle.monotone_walk.specs.declared.Current.TheVariants.{At, Nothing}
 use Rattle.monotone_count.specs.Rules.{count_says, walk_says}
 use Rattle.monotone_walk.specs.Rules.{next_says, successor_says}
 use Rattle.monotone_unrank.specs.Rules.{unrank_over_says}
 use Rattle.taking.specs.Taken.{Accepted}
 use Rattle.taking.proofs.Accepted.{index-accepted, taken-accepted}
-use Rattle.monotone_walk.specs.Walks.{Moved, current, step_from, step_says}
+use Rattle.monotone_walk.specs.Walks.{current, step_from, step_says}
 use Rattle.monotone_count.proofs.Rules.{Counted, count_given}
 use Rattle.promises.proofs.From.{from}
 use Rattle.promises.specs.Listing.{follow, listing, step_gives}
+use Rattle.monotone_walk.specs.declared.Moved.{Moved}
 
 pub positive_of_not_zero : (a : ℕ) → (a ≡ 0 → ⊥) → 0 < a
 positive_of_not_zero zero h = absurd (h refl)
@@ -98,26 +99,26 @@ successor_of_the_last F n k i l h = unranked_next F n k i l (omega arith) ∙ go
 
 pub record Standing (F : Family) (n k c i : ℕ) (s : Walk) : Type 0 where
   pub left : i + s.remaining ≡ c
-  pub at : i < c → s.current ≡ At (index_of F n (unrank_of F k i))
-  pub past : i ≡ c → s.current ≡ Nothing
+  pub at : i < c → s.current ≡ Some (index_of F n (unrank_of F k i))
+  pub past : i ≡ c → s.current ≡ None
 
 pub walk_stands : (F : Family) (n k c : ℕ) (s : Walk) → count_says F n k ≡ gives c → walk_says F n k ≡ gives s → Standing F n k c 0 s
 walk_stands F n k c s e w = go (gives_same begin s (sym (ap (λ a. and_then a state) e) ∙ w))
   where
     state : ℕ → Says Walk
-    state c = gives (record { current = pick (eqb c 0) Nothing (At (index_of F n (first F k))); remaining = c })
+    state c = gives (record { current = pick (eqb c 0) None (Some (index_of F n (first F k))); remaining = c })
 
     begin : Walk
-    begin = record { current = pick (eqb c 0) Nothing (At (index_of F n (first F k))); remaining = c }
+    begin = record { current = pick (eqb c 0) None (Some (index_of F n (first F k))); remaining = c }
 
     go : begin ≡ s → Standing F n k c 0 s
     go p =
         record {
           left = zero-add s.remaining ∙ sym (ap (λ (t : Walk). t.remaining) p);
           at = λ h. sym (ap (λ (t : Walk). t.current) p)
-              ∙ ap (λ t. pick t Nothing (At (index_of F n (first F k)))) (ne_eqb c 0 (λ z. omega arith))
-              ∙ ap (λ (u : List ℕ). At (index_of F n u)) (sym (first_is_unrank_zero F k));
-          past = λ z. sym (ap (λ (t : Walk). t.current) p) ∙ ap (λ t. pick t Nothing (At (index_of F n (first F k)))) (eq-eqb c 0 (sym z));
+              ∙ ap (λ t. pick t None (Some (index_of F n (first F k)))) (ne_eqb c 0 (λ z. omega arith))
+              ∙ ap (λ (u : List ℕ). Some (index_of F n u)) (sym (first_is_unrank_zero F k));
+          past = λ z. sym (ap (λ (t : Walk). t.current) p) ∙ ap (λ t. pick t None (Some (index_of F n (first F k)))) (eq-eqb c 0 (sym z));
         }
 
 -- the state after a step from the word of rank i
@@ -197,10 +198,10 @@ pub far_step_is_by_rank : (F : Family) (n k d : ℕ)
 far_step_is_by_rank F n k d = go (count_says F n k) refl
   where
     state : ℕ → Says Walk
-    state c = gives (record { current = pick (eqb c 0) Nothing (At (index_of F n (first F k))); remaining = c })
+    state c = gives (record { current = pick (eqb c 0) None (Some (index_of F n (first F k))); remaining = c })
 
     begin : ℕ → Walk
-    begin c = record { current = pick (eqb c 0) Nothing (At (index_of F n (first F k))); remaining = c }
+    begin c = record { current = pick (eqb c 0) None (Some (index_of F n (first F k))); remaining = c }
 
     ranked : ℕ → Says Index
     ranked c = refused_if (leb c d) 3 (gives (index_of F n (unrank_of F k d)))

@@ -14,21 +14,24 @@ use Rattle.words.specs.Bits.{bits_of}
 use Rattle.answers.specs.declared.Index.{Index}
 use Rattle.answers.specs.declared.Sign.{Sign}
 use Rattle.answers.specs.declared.Sign.TheVariants.{Plus, Minus}
-use Rattle.answers.specs.Says.{Says, refuses, gives, SignedTerm}
+use Rattle.answers.specs.Says.{Says, refuses, gives}
 use Rattle.answers.specs.Terms.{index_of}
 use Rattle.monotone_count.specs.Rules.{count_says}
 use Rattle.monotone_rank.specs.Rules.{rank_says}
 use Rattle.monotone_unrank.specs.Rules.{unrank_says, unrank_over_says}
 use Rattle.monotone_walk.specs.Rules.{successor_says}
 use Rattle.algebra.specs.Rules.{merge_says}
-use Rattle.deletion.specs.Rules.{Removed, delete_says, complement_says}
+use Rattle.deletion.specs.Rules.{delete_says, complement_says}
 use Rattle.permutation.specs.Record.{record_of}
 use Rattle.permutation_order.specs.Rules.{arrangement_rank_says}
 use Rattle.cartesian.specs.Rules.{shape_count_says, linearize_says}
 use Rattle.cartesian_strides.specs.Rules.{strides_says, corner_says}
 use Rattle.digits.specs.declared.DigitWord.{DigitWord}
-use Rattle.digits.specs.Rules.{TakenOut, from_symbols_says}
+use Rattle.digits.specs.Rules.{from_symbols_says}
 use Rattle.digits_algebra.specs.Rules.{digit_delete_says}
+use Rattle.answers.specs.declared.SignedTerm.{SignedTerm}
+use Rattle.deletion.specs.declared.Removed.{Removed}
+use Rattle.digits.specs.declared.TakenOut.{TakenOut}
 
 -- ---- cases
 

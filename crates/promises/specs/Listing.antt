@@ -12,7 +12,8 @@ use Rattle.answers.specs.declared.Index.{Index}
 use Rattle.answers.specs.Says.{Says, refuses_with, gives, and_then}
 use Rattle.answers.specs.Terms.{word_of}
 use Rattle.monotone_walk.specs.declared.Walk.{Walk}
-use Rattle.monotone_walk.specs.Walks.{Moved, step_says}
+use Rattle.monotone_walk.specs.Walks.{step_says}
+use Rattle.monotone_walk.specs.declared.Moved.{Moved}
 
 -- the word that a step gives, and what is listed from the state after it; nothing after a refusal
 abbrev pub follow : (Walk → List (List ℕ)) → Says Moved → List (List ℕ)

@@ -3,13 +3,12 @@
 --   zeros n, all n d    n symbols 0; n symbols d
 --   orders    for each call that has refusals of two numbers, the inputs that tell their order
 -- Each call is taken by the definition that its contract cites. The theorem is `orders-hold`.
-use Rattle.std.specs.Prelude.{List, [], ◌∷◌, ℕ, ◌^◌, replicate}
+use Rattle.std.specs.Prelude.{Some, None, List, [], ◌∷◌, ℕ, ◌^◌, replicate}
 use Rattle.words.specs.declared.Family.{Family}
 use Rattle.words.specs.declared.Family.TheVariants.{Forbidden, Allowed}
 use Rattle.answers.specs.declared.Index.{Index}
 use Rattle.answers.specs.Says.{refuses, refuses_at}
 use Rattle.answers.specs.Terms.{index_of}
-use Rattle.monotone_walk.specs.declared.Current.TheVariants.{At, Nothing}
 use Rattle.monotone_rank.specs.Rules.{rank_says, rank_of_says}
 use Rattle.monotone.specs.Rules.{pack_says, unpack_says, symbol_says}
 use Rattle.monotone_unrank.specs.Rules.{unrank_says, unrank_over_says, unrank_any_says}
@@ -63,9 +62,9 @@ orders =
     -- successor: 1, 7, 4; a step: 1, 7, 4
     ∷ successor_says (at Forbidden 65 0) is refuses 1
     ∷ successor_says (at Forbidden 1 2) is refuses 7
-    ∷ step_says (record { current = At (at Forbidden 65 0); remaining = 0 }) is refuses 1
-    ∷ step_says (record { current = At (at Forbidden 2 4); remaining = 0 }) is refuses 7
-    ∷ step_says (record { current = Nothing; remaining = 5 }) is refuses 4
+    ∷ step_says (record { current = Some (at Forbidden 65 0); remaining = 0 }) is refuses 1
+    ∷ step_says (record { current = Some (at Forbidden 2 4); remaining = 0 }) is refuses 7
+    ∷ step_says (record { current = None; remaining = 5 }) is refuses 4
     -- canonicalise: 1 (length or width), 5, 1 (last symbol), 7
     ∷ canonical_says Forbidden 65 (9 ∷ 9 ∷ []) is refuses 1
     ∷ canonical_says Forbidden 3 (70 ∷ 70 ∷ []) is refuses 5

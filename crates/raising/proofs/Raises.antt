@@ -2,19 +2,17 @@
 --   raise_none, raise-found, raise-more    the search from the top down: it ends, it finds, it goes on
 --   raised_long, raised_at_lem    the next word by its symbols
 use mathlib.Core.Path.{◌≡◌, refl, sym, ap, subst, ◌∙◌}
-use mathlib.Core.Bool.{Bool, true, false}
+use mathlib.Core.Bool.{true, false}
 use mathlib.Core.List.{List, [], ◌∷◌, ◌++◌}
 use Prim.Native.Nat.{ℕ, zero, suc, ◌+◌, ◌-◌, ◌≤◌, ◌<◌, zero-le}
 use native.Mathlib.Nat.{le_refl, le_of_suc-le-suc, not-suc-le-zero}
 use native.Mathlib.Decide.{dec_lt}
 use native.Mathlib.Omega.{arith}
 use borrow.Author.Tests.{lt-ltb, le-ltb}
-use lib.Dec.{ltb}
 use lib.ListN.{length, get_or, take, drop, length-append, length-drop, get_or-append}
 use lib.Seq.{length-take-le, drop-cons, drop-length, get_or-take, get_or-append-add}
 use Rattle.words.specs.declared.Family.{Family}
 use Rattle.words.specs.declared.Family.TheVariants.{Forbidden, Allowed}
-use Rattle.words.specs.Pick.{pick}
 use Rattle.words.specs.Next.{highest, base}
 use Rattle.lexicographic.specs.Order.{least, climb, has_later, lex_next}
 use Rattle.lexicographic.proofs.Next.{climb_long}

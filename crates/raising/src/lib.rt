@@ -2,27 +2,20 @@
 // by one, and those above it fall back to the lowest that can stand there.
 #![tactic(auto)]
 
-ghost use Rattle.std.specs.Prelude.{◌≡◌, ◌-◌, ◌≤◌, ◌<◌, length};
+ghost use Rattle.std.specs.Prelude.{◌≡◌, ◌≤◌, ◌<◌, length};
 ghost use Rattle.words.specs.Next.{highest as highest_of, base as base_of};
 ghost use Rattle.answers.specs.Says.{after, gives};
 ghost use Rattle.raising.specs.Raised.{Raise, CanWrite, raised_at, next_at};
 
 use words::Family;
 
-// n - m, and 0 where m is more.
-fn less(n: u64, m: u64) -> u64
-    ensures { result ≡ n - m }
-{
-    if m < n { n - m } else { 0 }
-}
-
 // The greatest symbol that can stand d places below the top of a word over n.
 fn highest(family: Family, n: u64, d: u64) -> u64
     ensures { result ≡ highest_of family n d }
 {
-    let top = less(n, 1);
+    let top = n.saturating_sub(1);
     match family {
-        Family::Forbidden => less(top, d),
+        Family::Forbidden => top.saturating_sub(d),
         Family::Allowed => top,
     }
 }
@@ -32,12 +25,10 @@ pub fn raisable(family: Family, n: u64, word: &[u64]) -> usize
     ensures { Raise family n word.now result }
 {
     let k = word.len();
-    let mut i = k;
-    while 0 < i {
-        if word[i - 1] < highest(family, n, (k - i) as u64) {
-            return i;
+    for i in (0..k).rev() {
+        if word[i] < highest(family, n, (k - 1 - i) as u64) {
+            return i + 1;
         }
-        i -= 1;
     }
     0
 }
@@ -68,9 +59,7 @@ pub fn write_next(family: Family, word: &[u64], r: usize, out: &mut [u64])
     requires { CanWrite word.now r × (length word.now ≤ length out.old) }
     ensures { out.new ≡ after (gives (raised_at family word.now r)) out.old }
 {
-    let mut j = 0;
-    while j < word.len() {
+    for j in 0..word.len() {
         out[j] = next_symbol(family, word, r, j);
-        j += 1;
     }
 }

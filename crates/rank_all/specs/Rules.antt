@@ -8,7 +8,7 @@
 --   through j s    what the judgement of all makes of s
 --   JudgesAll F n bs j    that is what judging them makes of it, whatever comes after
 --   ranked_says r    what each case of the answer means
-use Rattle.std.specs.Prelude.{◌≡◌, List, [], ◌∷◌, map, ℕ, suc, ltb, length}
+use Rattle.std.specs.Prelude.{Result, Ok, Err, ◌≡◌, List, [], ◌∷◌, map, ℕ, suc, ltb, length}
 use Rattle.words.specs.declared.Family.{Family}
 use Rattle.words.specs.declared.Family.TheVariants.{Forbidden}
 use Rattle.words.specs.Rank.{rank_of}
@@ -17,12 +17,8 @@ use Rattle.answers.specs.declared.Index.{Index}
 use Rattle.answers.specs.Says.{Says, gives, refuses_at, refused_at_if, number_of}
 use Rattle.answers.specs.Terms.{word_of}
 use Rattle.taking.specs.Taken.{too_wide, outside}
-use Rattle.taking.specs.declared.Verdict.{Verdict}
-use Rattle.taking.specs.declared.Verdict.TheVariants as verdict
-use Rattle.rank_all.specs.declared.Judged.{Judged}
-use Rattle.rank_all.specs.declared.Judged.TheVariants as judged
-use Rattle.rank_all.specs.declared.Ranked.{Ranked}
-use Rattle.rank_all.specs.declared.Ranked.TheVariants as ranked
+use Rattle.rank_all.specs.declared.PlacedRefusal.{PlacedRefusal}
+use Rattle.answers.specs.declared.Refusal.{Refusal}
 
 abbrev pub index_with : Family → ℕ → ℕ → Index
 index_with F n b = record { family = F; alphabet = n; bits = b }
@@ -43,17 +39,17 @@ rank_all_says F n bs room = judged_from F n 0 bs (refused_at_if (ltb room (lengt
 
 -- ---- what the code finds, and answers
 
-abbrev pub placed : ℕ → Verdict → Says (List ℕ) → Says (List ℕ)
-placed i verdict.Accepted s = s
-placed i (verdict.Refused e) s = refuses_at (number_of e) i
+abbrev pub placed : ℕ → Result Unit Refusal → Says (List ℕ) → Says (List ℕ)
+placed i (Ok tt) s = s
+placed i (Err e) s = refuses_at (number_of e) i
 
-abbrev pub through : Judged → Says (List ℕ) → Says (List ℕ)
-through judged.Good s = s
-through (judged.Bad e i) s = refuses_at (number_of e) i
+abbrev pub through : Result Unit PlacedRefusal → Says (List ℕ) → Says (List ℕ)
+through (Ok tt) s = s
+through (Err e) s = refuses_at (number_of e.refusal) e.at
 
-abbrev pub JudgesAll : Family → ℕ → List ℕ → Judged → Type 0
+abbrev pub JudgesAll : Family → ℕ → List ℕ → Result Unit PlacedRefusal → Type 0
 JudgesAll F n bs j = (s : Says (List ℕ)) → through j s ≡ judged_from F n 0 bs s
 
-abbrev pub ranked_says : Ranked → Says ℕ
-ranked_says (ranked.All k) = gives k
-ranked_says (ranked.Refused e i) = refuses_at (number_of e) i
+abbrev pub ranked_says : Result ℕ PlacedRefusal → Says ℕ
+ranked_says (Ok k) = gives k
+ranked_says (Err e) = refuses_at (number_of e.refusal) e.at

@@ -2,44 +2,73 @@
 // after it.
 #![tactic(auto)]
 
-use answers::{Answer, Index, Indexed, Refusal, Sign, Signed};
-use deletion::Deleted;
-use digits::{Deleted as DigitDeleted, Worded};
-use mass::{Joined, Massed};
-use monotone_walk::{Current, Stepped, Walk};
-use permutation::Signature;
-use wide::{Wide, WideDeleted, WideIndexed, WideSigned};
+use answers::{Index, Refusal, Sign, SignedTerm};
+use deletion::Removed;
+use digits::{DigitWord, TakenOut};
+use mass::{FrameRefusal, Sample};
+use monotone_walk::{Moved, Walk};
+use wide::{Wide, WideGap, WideTerm};
 
 // What a request is answered with.
 #[derive(Clone, Copy)]
 pub enum Reply {
-    // it is no request
-    Bad,
-    Number(Answer),
-    Index(Indexed),
-    Sign(Signature),
-    Signed(Signed),
-    Deleted(Deleted),
-    Wide(WideIndexed),
-    WideSigned(WideSigned),
-    WideDeleted(WideDeleted),
-    Step(Stepped),
-    DigitWord(Worded),
-    DigitDeleted(DigitDeleted),
+    Number(u64),
+    Index(Index),
+    Sign(Sign),
+    Signed(SignedTerm),
+    Deleted(Removed),
+    Wide(Wide),
+    WideSigned(WideTerm),
+    WideDeleted(WideGap),
+    Step(Moved),
+    DigitWord(DigitWord),
+    DigitDeleted(TakenOut),
     Truth(bool),
     // how many of the lent places a call has written
-    Places(Answer),
+    Places(u64),
     // the same of lent bytes, and of lent signed numbers
-    Bytes(Answer),
-    Entries(Answer),
+    Bytes(u64),
+    Entries(u64),
     // an image in pieces of which nothing is told yet
     Open,
-    Sample(Joined),
-    Mass(Massed),
+    Sample(Sample),
+    Mass(f64),
 }
+
+// Why a request is refused; a call on a frame names the frame as well.
+#[derive(Clone, Copy)]
+pub enum Refused {
+    Plain(Refusal),
+    Framed(FrameRefusal),
+}
+
+impl From<Refusal> for Refused {
+    fn from(e: Refusal) -> Refused {
+        Refused::Plain(e)
+    }
+}
+
+impl From<FrameRefusal> for Refused {
+    fn from(e: FrameRefusal) -> Refused {
+        Refused::Framed(e)
+    }
+}
+
+// What is answered to the words of a line: a reply or a refusal, and none where they are no request.
+pub type Answered = Result<Option<Reply>, Refused>;
 
 pub fn bad(out: &mut [u8], at: usize) -> usize {
     text::put(out, at, b"bad line\n")
+}
+
+// The number of a refusal, with its place where it carries one.
+fn number_and_place(out: &mut [u8], at: usize, e: Refusal) -> usize {
+    let at = text::put_number(out, at, answers::number(e));
+    if !answers::carries(e) {
+        return at;
+    }
+    let at = text::put(out, at, b" at ");
+    text::put_number(out, at, answers::place(e))
 }
 
 // A refusal by its number, with its place where it carries one.
@@ -49,17 +78,26 @@ fn refusal(out: &mut [u8], at: usize, e: Refusal) -> usize {
     text::put_byte(out, at, b'\n')
 }
 
+// A refusal that names a frame.
+fn frame_refusal(out: &mut [u8], at: usize, e: FrameRefusal) -> usize {
+    let at = text::put(out, at, b"refused ");
+    let at = number_and_place(out, at, e.refusal);
+    let at = text::put(out, at, b" frame ");
+    number(out, at, e.frame)
+}
+
+fn put_refused(out: &mut [u8], at: usize, e: Refused) -> usize {
+    match e {
+        Refused::Plain(e) => refusal(out, at, e),
+        Refused::Framed(e) => frame_refusal(out, at, e),
+    }
+}
+
+// ---- the replies
+
 fn number(out: &mut [u8], at: usize, n: u64) -> usize {
     let at = text::put_number(out, at, n);
     text::put_byte(out, at, b'\n')
-}
-
-// A number, or a refusal.
-fn answer(out: &mut [u8], at: usize, a: Answer) -> usize {
-    match a {
-        Answer::Is(n) => number(out, at, n),
-        Answer::Refused(e) => refusal(out, at, e),
-    }
 }
 
 // The alphabet and the bits of an index.
@@ -69,132 +107,89 @@ fn put_index(out: &mut [u8], at: usize, x: Index) -> usize {
     text::put_number(out, at, x.bits)
 }
 
-// The same alone, or a refusal.
-fn index(out: &mut [u8], at: usize, a: Indexed) -> usize {
-    match a {
-        Indexed::At(x) => {
-            let at = put_index(out, at, x);
-            text::put_byte(out, at, b'\n')
-        }
-        Indexed::Refused(e) => refusal(out, at, e),
-    }
+// The same alone.
+fn index(out: &mut [u8], at: usize, x: Index) -> usize {
+    let at = put_index(out, at, x);
+    text::put_byte(out, at, b'\n')
 }
 
-// A sign.
-fn sign(out: &mut [u8], at: usize, s: Sign) -> usize {
+fn put_sign(out: &mut [u8], at: usize, s: Sign) -> usize {
     match s {
         Sign::Plus => text::put_byte(out, at, b'+'),
         Sign::Minus => text::put_byte(out, at, b'-'),
     }
 }
 
-// A sign alone, or a refusal.
-fn signs(out: &mut [u8], at: usize, a: Signature) -> usize {
-    match a {
-        Signature::Is(s) => {
-            let at = sign(out, at, s);
-            text::put_byte(out, at, b'\n')
-        }
-        Signature::Refused(e) => refusal(out, at, e),
-    }
+// A sign alone.
+fn sign(out: &mut [u8], at: usize, s: Sign) -> usize {
+    let at = put_sign(out, at, s);
+    text::put_byte(out, at, b'\n')
 }
 
-// A sign, the alphabet and the bits of an index, or a refusal.
-fn signed(out: &mut [u8], at: usize, a: Signed) -> usize {
-    match a {
-        Signed::At(s, x) => {
-            let at = sign(out, at, s);
-            let at = text::put_byte(out, at, b' ');
-            let at = put_index(out, at, x);
-            text::put_byte(out, at, b'\n')
-        }
-        Signed::Refused(e) => refusal(out, at, e),
-    }
+// A sign, and a space after it.
+fn put_sign_before(out: &mut [u8], at: usize, s: Sign) -> usize {
+    let at = put_sign(out, at, s);
+    text::put_byte(out, at, b' ')
 }
 
-// A sign, the deleted symbol, the alphabet and the bits of what is left, or a refusal.
-fn deleted(out: &mut [u8], at: usize, a: Deleted) -> usize {
-    match a {
-        Deleted::At(s, symbol, x) => {
-            let at = sign(out, at, s);
-            let at = text::put_byte(out, at, b' ');
-            let at = text::put_number(out, at, symbol);
-            let at = text::put_byte(out, at, b' ');
-            let at = put_index(out, at, x);
-            text::put_byte(out, at, b'\n')
-        }
-        Deleted::Refused(e) => refusal(out, at, e),
-    }
+// A sign, the alphabet and the bits of an index.
+fn signed(out: &mut [u8], at: usize, term: SignedTerm) -> usize {
+    let at = put_sign_before(out, at, term.sign);
+    index(out, at, term.index)
 }
 
-// The two halves of a wide index, the low one first, to the end of the line.
-fn put_halves(out: &mut [u8], at: usize, x: Wide) -> usize {
-    let at = text::put_number(out, at, x.low);
-    let at = text::put_byte(out, at, b' ');
-    number(out, at, x.high)
+// A sign and a deleted symbol, with a space after each.
+fn put_gap(out: &mut [u8], at: usize, s: Sign, symbol: u64) -> usize {
+    let at = put_sign_before(out, at, s);
+    let at = text::put_number(out, at, symbol);
+    text::put_byte(out, at, b' ')
 }
 
-// The same, or a refusal.
-fn wide(out: &mut [u8], at: usize, a: WideIndexed) -> usize {
-    match a {
-        WideIndexed::At(x) => put_halves(out, at, x),
-        WideIndexed::Refused(e) => refusal(out, at, e),
-    }
+// A sign, the deleted symbol, the alphabet and the bits of what is left.
+fn deleted(out: &mut [u8], at: usize, gone: Removed) -> usize {
+    let at = put_gap(out, at, gone.sign, gone.symbol);
+    index(out, at, gone.index)
 }
 
-// A sign and the halves of a wide index, or a refusal.
-fn wide_signed(out: &mut [u8], at: usize, a: WideSigned) -> usize {
-    match a {
-        WideSigned::At(s, x) => {
-            let at = sign(out, at, s);
-            let at = text::put_byte(out, at, b' ');
-            put_halves(out, at, x)
-        }
-        WideSigned::Refused(e) => refusal(out, at, e),
-    }
+// The two halves of a wide index, the low one first.
+fn wide(out: &mut [u8], at: usize, x: Wide) -> usize {
+    pair(out, at, x.low, x.high)
 }
 
-// A sign, the deleted symbol and the halves of what is left, or a refusal.
-fn wide_deleted(out: &mut [u8], at: usize, a: WideDeleted) -> usize {
-    match a {
-        WideDeleted::At(s, symbol, x) => {
-            let at = sign(out, at, s);
-            let at = text::put_byte(out, at, b' ');
-            let at = text::put_number(out, at, symbol);
-            let at = text::put_byte(out, at, b' ');
-            put_halves(out, at, x)
-        }
-        WideDeleted::Refused(e) => refusal(out, at, e),
-    }
+// A sign and the halves of a wide index.
+fn wide_signed(out: &mut [u8], at: usize, term: WideTerm) -> usize {
+    let at = put_sign_before(out, at, term.sign);
+    wide(out, at, term.index)
+}
+
+// A sign, the deleted symbol and the halves of what is left.
+fn wide_deleted(out: &mut [u8], at: usize, gone: WideGap) -> usize {
+    let at = put_gap(out, at, gone.sign, gone.symbol);
+    wide(out, at, gone.index)
 }
 
 // Where a walk stands, and what remains of it.
 fn standing(out: &mut [u8], at: usize, w: Walk) -> usize {
     let current = w.current;
     match current {
-        Current::At(x) => {
+        Some(x) => {
             let at = text::put(out, at, b"here ");
             let at = put_index(out, at, x);
             let at = text::put_byte(out, at, b' ');
             number(out, at, w.remaining)
         }
-        Current::Nothing => {
+        None => {
             let at = text::put(out, at, b"nowhere ");
             number(out, at, w.remaining)
         }
     }
 }
 
-// The index that a step gives and the walk after it, or a refusal.
-fn step(out: &mut [u8], at: usize, a: Stepped) -> usize {
-    match a {
-        Stepped::Step(x, w) => {
-            let at = put_index(out, at, x);
-            let at = text::put_byte(out, at, b' ');
-            standing(out, at, w)
-        }
-        Stepped::Refused(e) => refusal(out, at, e),
-    }
+// The index that a step gives and the walk after it.
+fn step(out: &mut [u8], at: usize, moved: Moved) -> usize {
+    let at = put_index(out, at, moved.index);
+    let at = text::put_byte(out, at, b' ');
+    standing(out, at, moved.state)
 }
 
 // Two numbers.
@@ -202,22 +197,6 @@ fn pair(out: &mut [u8], at: usize, m: u64, n: u64) -> usize {
     let at = text::put_number(out, at, m);
     let at = text::put_byte(out, at, b' ');
     number(out, at, n)
-}
-
-// The degree and the rank of a digit word, or a refusal.
-fn digit_word(out: &mut [u8], at: usize, a: Worded) -> usize {
-    match a {
-        Worded::Is(x) => pair(out, at, x.degree, x.rank),
-        Worded::Refused(e) => refusal(out, at, e),
-    }
-}
-
-// The deleted symbol and the rank of the digit word that is left, or a refusal.
-fn digit_deleted(out: &mut [u8], at: usize, a: DigitDeleted) -> usize {
-    match a {
-        DigitDeleted::At(symbol, x) => pair(out, at, symbol, x.rank),
-        DigitDeleted::Refused(e) => refusal(out, at, e),
-    }
 }
 
 // Yes or no.
@@ -240,41 +219,29 @@ fn item(out: &mut [u8], at: usize, i: usize, n: u64) -> usize {
 // Numbers, with a space between two of them.
 fn numbers(out: &mut [u8], at: usize, list: &[u64]) -> usize {
     let mut to = at;
-    let mut i = 0;
-    while i < list.len() {
-        to = item(out, to, i, list[i]);
-        i += 1;
+    for (i, n) in list.iter().enumerate() {
+        to = item(out, to, i, *n);
     }
     text::put_byte(out, to, b'\n')
 }
 
-// The places that a call has written of those that it was lent, or its refusal.
-fn places(out: &mut [u8], at: usize, a: Answer, lent: &[u64]) -> usize {
-    match a {
-        Answer::Is(n) => {
-            let k = n as usize;
-            if k > lent.len() {
-                return bad(out, at);
-            }
-            numbers(out, at, &lent[0..k])
-        }
-        Answer::Refused(e) => refusal(out, at, e),
+// The places that a call has written, n of those that it was lent.
+fn places(out: &mut [u8], at: usize, n: u64, lent: &[u64]) -> usize {
+    let k = n as usize;
+    if k > lent.len() {
+        return bad(out, at);
     }
+    numbers(out, at, &lent[0..k])
 }
 
-// The bytes that a call has written of those that it was lent, or its refusal.
-fn bytes(out: &mut [u8], at: usize, a: Answer, lent: &[u8]) -> usize {
-    match a {
-        Answer::Is(n) => {
-            let k = n as usize;
-            if k > lent.len() {
-                return bad(out, at);
-            }
-            let at = spelling::put_bytes(out, at, &lent[0..k]);
-            text::put_byte(out, at, b'\n')
-        }
-        Answer::Refused(e) => refusal(out, at, e),
+// The bytes that a call has written, n of those that it was lent.
+fn bytes(out: &mut [u8], at: usize, n: u64, lent: &[u8]) -> usize {
+    let k = n as usize;
+    if k > lent.len() {
+        return bad(out, at);
     }
+    let at = spelling::put_bytes(out, at, &lent[0..k]);
+    text::put_byte(out, at, b'\n')
 }
 
 // The i-th signed number of a list, after a space where it is not the first.
@@ -289,74 +256,37 @@ fn signed_item(out: &mut [u8], at: usize, i: usize, z: i64) -> usize {
 // Signed numbers, with a space between two of them.
 fn signed_numbers(out: &mut [u8], at: usize, list: &[i64]) -> usize {
     let mut to = at;
-    let mut i = 0;
-    while i < list.len() {
-        to = signed_item(out, to, i, list[i]);
-        i += 1;
+    for (i, z) in list.iter().enumerate() {
+        to = signed_item(out, to, i, *z);
     }
     text::put_byte(out, to, b'\n')
 }
 
-// The signed numbers that a call has written of the places that it was lent, or its refusal.
-fn entries(out: &mut [u8], at: usize, a: Answer, lent: &[i64]) -> usize {
-    match a {
-        Answer::Is(n) => {
-            let k = n as usize;
-            if k > lent.len() {
-                return bad(out, at);
-            }
-            signed_numbers(out, at, &lent[0..k])
-        }
-        Answer::Refused(e) => refusal(out, at, e),
+// The signed numbers that a call has written, n of the places that it was lent.
+fn entries(out: &mut [u8], at: usize, n: u64, lent: &[i64]) -> usize {
+    let k = n as usize;
+    if k > lent.len() {
+        return bad(out, at);
     }
+    signed_numbers(out, at, &lent[0..k])
 }
 
-// A refusal that names a frame.
-fn frame_refusal(out: &mut [u8], at: usize, e: Refusal, frame: u64) -> usize {
-    let at = text::put(out, at, b"refused ");
-    let at = number_and_place(out, at, e);
-    let at = text::put(out, at, b" frame ");
-    number(out, at, frame)
+// A frame and its two readings.
+fn sample(out: &mut [u8], at: usize, s: Sample) -> usize {
+    let at = text::put_number(out, at, s.frame);
+    let at = text::put_byte(out, at, b' ');
+    let at = float_text::put(out, at, s.pressure);
+    let at = text::put_byte(out, at, b' ');
+    mass(out, at, s.temperature)
 }
 
-// The number of a refusal, with its place where it carries one.
-fn number_and_place(out: &mut [u8], at: usize, e: Refusal) -> usize {
-    let at = text::put_number(out, at, answers::number(e));
-    if !answers::carries(e) {
-        return at;
-    }
-    let at = text::put(out, at, b" at ");
-    text::put_number(out, at, answers::place(e))
+fn mass(out: &mut [u8], at: usize, x: f64) -> usize {
+    let at = float_text::put(out, at, x);
+    text::put_byte(out, at, b'\n')
 }
 
-// A frame and its two readings, or a refusal.
-fn sample(out: &mut [u8], at: usize, a: Joined) -> usize {
-    match a {
-        Joined::One(s) => {
-            let at = text::put_number(out, at, s.frame);
-            let at = text::put_byte(out, at, b' ');
-            let at = float_text::put(out, at, s.pressure);
-            let at = text::put_byte(out, at, b' ');
-            let at = float_text::put(out, at, s.temperature);
-            text::put_byte(out, at, b'\n')
-        }
-        Joined::Refused(e, frame) => frame_refusal(out, at, e, frame),
-    }
-}
-
-// A mass, or a refusal.
-fn mass(out: &mut [u8], at: usize, a: Massed) -> usize {
-    match a {
-        Massed::Is(x) => {
-            let at = float_text::put(out, at, x);
-            text::put_byte(out, at, b'\n')
-        }
-        Massed::Refused(e, frame) => frame_refusal(out, at, e, frame),
-    }
-}
-
-// Puts a reply. The places, the bytes and the signed numbers are those that calls write to.
-pub fn put(
+// A reply. The places, the bytes and the signed numbers are those that calls write to.
+fn put_reply(
     out: &mut [u8],
     at: usize,
     r: Reply,
@@ -365,24 +295,40 @@ pub fn put(
     table: &[i64],
 ) -> usize {
     match r {
-        Reply::Bad => bad(out, at),
-        Reply::Number(a) => answer(out, at, a),
-        Reply::Index(a) => index(out, at, a),
-        Reply::Sign(a) => signs(out, at, a),
-        Reply::Signed(a) => signed(out, at, a),
-        Reply::Deleted(a) => deleted(out, at, a),
-        Reply::Wide(a) => wide(out, at, a),
-        Reply::WideSigned(a) => wide_signed(out, at, a),
-        Reply::WideDeleted(a) => wide_deleted(out, at, a),
-        Reply::Step(a) => step(out, at, a),
-        Reply::DigitWord(a) => digit_word(out, at, a),
-        Reply::DigitDeleted(a) => digit_deleted(out, at, a),
+        Reply::Number(n) => number(out, at, n),
+        Reply::Index(x) => index(out, at, x),
+        Reply::Sign(s) => sign(out, at, s),
+        Reply::Signed(term) => signed(out, at, term),
+        Reply::Deleted(gone) => deleted(out, at, gone),
+        Reply::Wide(x) => wide(out, at, x),
+        Reply::WideSigned(term) => wide_signed(out, at, term),
+        Reply::WideDeleted(gone) => wide_deleted(out, at, gone),
+        Reply::Step(moved) => step(out, at, moved),
+        Reply::DigitWord(x) => pair(out, at, x.degree, x.rank),
+        // the deleted symbol and the rank of the digit word that is left
+        Reply::DigitDeleted(gone) => pair(out, at, gone.symbol, gone.left.rank),
         Reply::Truth(a) => truth(out, at, a),
-        Reply::Places(a) => places(out, at, a, lent),
-        Reply::Bytes(a) => bytes(out, at, a, written),
-        Reply::Entries(a) => entries(out, at, a, table),
+        Reply::Places(n) => places(out, at, n, lent),
+        Reply::Bytes(n) => bytes(out, at, n, written),
+        Reply::Entries(n) => entries(out, at, n, table),
         Reply::Open => text::put(out, at, b"open\n"),
-        Reply::Sample(a) => sample(out, at, a),
-        Reply::Mass(a) => mass(out, at, a),
+        Reply::Sample(s) => sample(out, at, s),
+        Reply::Mass(x) => mass(out, at, x),
+    }
+}
+
+// Puts what is answered to a line, with the places, the bytes and the signed numbers that calls write to.
+pub fn put(
+    out: &mut [u8],
+    at: usize,
+    a: Answered,
+    lent: &[u64],
+    written: &[u8],
+    table: &[i64],
+) -> usize {
+    match a {
+        Ok(Some(r)) => put_reply(out, at, r, lent, written, table),
+        Ok(None) => bad(out, at),
+        Err(e) => put_refused(out, at, e),
     }
 }

@@ -3,6 +3,7 @@
 --   no_number_past, no-verb-after, no_number    a line that ends at `room`, or after the number, or has none there, does not open
 --   number-then-verb    the number and the verb after it
 --   opens-with-room, opens-with-verb    a line whose first text is `room`, and another
+use Rattle.std.specs.Prelude.{Option, Some, None}
 use mathlib.Core.Path.{◌≡◌, refl, sym, ap, subst, ◌∙◌}
 use mathlib.Core.List.{List, [], ◌∷◌}
 use Prim.Native.Nat.{ℕ, ◌+◌, ◌-◌, ◌^◌, ◌≤◌, ◌<◌}
@@ -10,13 +11,10 @@ use native.Mathlib.Omega.{arith}
 use lib.ListN.{length, take, drop}
 use Rattle.text.specs.Text.{Found}
 use Rattle.text.specs.Numeral.{Numeral, Reads}
-use Rattle.text.specs.declared.Number.{Number}
-use Rattle.text.specs.declared.Number.TheVariants as read
-use Rattle.requests.specs.declared.Begun.{Begun}
-use Rattle.requests.specs.declared.Begun.TheVariants as begun
 use Rattle.requests.specs.Protocol.{texts_of, texts_from, Lent, enough, places, room_name, Opens}
 use Rattle.requests.specs.Parts.{BeginsAt, Begins, VerbIs, VerbAt, AfterRoom}
 use Rattle.requests.proofs.Texts.{texts_at, no_texts_past}
+use Rattle.requests.specs.declared.Verb.{Verb}
 
 -- an empty list has no first text
 none_first : {A : Type 0} (t : A) (ts : List A) → ◌≡◌ {A = List A} [] (t ∷ ts) → ⊥
@@ -35,19 +33,19 @@ module _ (line : List ℕ) (from end : ℕ) (h : from ≤ length line) (f : Foun
   pub verb-is : (first ≡ room_name → ⊥) → VerbIs line from end
   verb-is d = record { texts = texts_at line from end h f; once = d; ordered = omega (arith, f.after); within = f.within }
 
-  pub no-verb : first ≡ room_name → (room : ℕ) → VerbAt line room from begun.Bad
+  pub no-verb : first ≡ room_name → (room : ℕ) → VerbAt line room from None
   no-verb e room verb rest q d = d (first-is verb rest q ∙ e)
 
-  pub no-verb-after : end ≡ length line → AfterRoom line from begun.Bad
+  pub no-verb-after : end ≡ length line → AfterRoom line from None
   no-verb-after e numeral verb rest n q w g d =
       none_first verb rest (sym (no_texts_past line (end + 1) (omega arith)) ∙ others-are numeral (verb ∷ rest) q)
 
-  pub no_number : (r : Number) → r ≡ read.Bad → Reads first r → AfterRoom line from begun.Bad
+  pub no_number : (r : Option ℕ) → r ≡ None → Reads first r → AfterRoom line from None
   no_number r e o numeral verb rest n q w g d =
       subst (Reads first) e o n g (subst (λ (t : List ℕ). Numeral t n) (first-is numeral (verb ∷ rest) q) w)
 
-  pub number-then-verb : (x : Number) (room : ℕ) (r : Begun) → x ≡ read.Is room → Reads first x → VerbAt line room (end + 1) r → AfterRoom line from r
-  number-then-verb x room (begun.Verb room' from' end') e o v =
+  pub number-then-verb : (x : Option ℕ) (room : ℕ) (r : Option Verb) → x ≡ Some room → Reads first x → VerbAt line room (end + 1) r → AfterRoom line from r
+  number-then-verb x room (Some w) e o v =
       let says = subst (Reads first) e o in
       record {
         numeral = first;
@@ -56,9 +54,9 @@ module _ (line : List ℕ) (from end : ℕ) (h : from ≤ length line) (f : Foun
         fits = subst (λ (n : ℕ). n < 2 ^ 64) (sym v.0) says.1;
         verb = v.1.1;
       }
-  number-then-verb x room begun.Bad e o v = λ numeral verb rest n q w g d. v verb rest (others-are numeral (verb ∷ rest) q) d
+  number-then-verb x room None e o v = λ numeral verb rest n q w g d. v verb rest (others-are numeral (verb ∷ rest) q) d
 
-pub no_number_past : (line : List ℕ) (from : ℕ) → length line < from → AfterRoom line from begun.Bad
+pub no_number_past : (line : List ℕ) (from : ℕ) → length line < from → AfterRoom line from None
 no_number_past line from h numeral verb rest n q w g d = none_first numeral (verb ∷ rest) (sym (no_texts_past line from h) ∙ q)
 
 -- ---- the first text of a line
@@ -68,10 +66,10 @@ module _ (line : List ℕ) (end : ℕ) (short : length line ≤ 262144) (f : Fou
   unfolding texts_from
   first_text = texts_at line 0 end (omega arith) f
 
-  pub opens-with-room : (r : Begun) → take (end - 0) line ≡ room_name → AfterRoom line (end + 1) r → Begins line r
-  opens-with-room (begun.Verb room from' end') e a =
+  pub opens-with-room : (r : Option Verb) → take (end - 0) line ≡ room_name → AfterRoom line (end + 1) r → Begins line r
+  opens-with-room (Some v) e a =
       record {
-        lent = places room;
+        lent = places v.room;
         room_is = refl;
         opens = record {
           short = short;
@@ -81,7 +79,7 @@ module _ (line : List ℕ) (end : ℕ) (short : length line ≤ 262144) (f : Fou
         ordered = a.verb.ordered;
         within = a.verb.within;
       }
-  opens-with-room begun.Bad e a = λ lent verb rest o. bad lent verb rest o
+  opens-with-room None e a = λ lent verb rest o. bad lent verb rest o
     where
       bad : (lent : Lent) (verb : List ℕ) (rest : List (List ℕ)) → Opens line lent verb rest → ⊥
       bad enough verb rest o = o.once (let t = first_text in let q = o.lends in cc)

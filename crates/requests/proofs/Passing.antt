@@ -4,6 +4,7 @@
 --   Passed texts ahead kinds₀ values₀ kinds values n    the first n of the texts are taken in, those ahead are not
 --   passed_none, passed-one, passed-all    at the beginning, one text further, and at the end
 --   passed-bad, passed-full    a text that says no word, and one that has no place, make the texts bad
+use Rattle.std.specs.Prelude.{Option, Some, None}
 use mathlib.Core.Bool.{true, false, not, true≢false}
 use mathlib.Core.Path.{◌≡◌, refl, sym, ap, subst, ◌∙◌}
 use mathlib.Core.List.{List, [], ◌∷◌, ◌++◌, map, append_assoc, append-nil}
@@ -16,12 +17,9 @@ use lib.Seq.{drop-cons, set_at}
 use borrow.Author.Tests.{eqb-true, eqb-false, not-true, not-false}
 use Rattle.text.specs.Names.{Names}
 use Rattle.text.specs.Numeral.{Reads}
-use Rattle.text.specs.declared.Named.{Named}
-use Rattle.text.specs.declared.Named.TheVariants as named
-use Rattle.text.specs.declared.Number.{Number}
-use Rattle.text.specs.declared.Number.TheVariants as read
 use Rattle.requests.specs.Protocol.{LineWord, number, family, slash, here, nowhere, raw, here_name, nowhere_name, raw_name, Spells, AllSpell}
 use Rattle.requests.specs.Parts.{kind_of, value_of, kinds_of, values_of, KindOf, WordIn, TakenIn, TakesAll}
+use Rattle.words.specs.declared.Family.{Family}
 
 -- ---- one text
 
@@ -36,15 +34,15 @@ kind_is text x k s e v h =
       no_raw = λ z. absurd (omega arith);
     }
 
-pub no_kind : (text : List ℕ) (r : Named) → r ≡ named.Nothing → Names text r → (text ≡ 47 ∷ [] → ⊥) → (text ≡ here_name → ⊥) → (text ≡ nowhere_name → ⊥) → (text ≡ raw_name → ⊥) → KindOf text 0
+pub no_kind : (text : List ℕ) (r : Option Family) → r ≡ None → Names text r → (text ≡ 47 ∷ [] → ⊥) → (text ≡ here_name → ⊥) → (text ≡ nowhere_name → ⊥) → (text ≡ raw_name → ⊥) → KindOf text 0
 no_kind text r e o d h w a =
     record { some = λ z. absurd (z refl); no_family = λ z. subst (Names text) e o; no_slash = λ z. d; no_here = λ z. h; no_nowhere = λ z. w; no_raw = λ z. a }
 
 module _ (text : List ℕ) (i : ℕ) (kinds values : List ℕ) where
-  pub number_in : (r : Number) (n : ℕ) → r ≡ read.Is n → Reads text r → TakenIn text i kinds values (set kinds i 110) (set values i n) true
+  pub number_in : (r : Option ℕ) (n : ℕ) → r ≡ Some n → Reads text r → TakenIn text i kinds values (set kinds i 110) (set values i n) true
   number_in r n e o = record { one = λ t. record { word = number n; says = subst (Reads text) e o; kind = refl; value = refl }; none = λ t. absurd (true≢false t) }
 
-  pub other-in : (r : Number) (k : ℕ) → r ≡ read.Bad → Reads text r → KindOf text k → TakenIn text i kinds values (set kinds i k) (set values i 0) (not (eqb k 0))
+  pub other-in : (r : Option ℕ) (k : ℕ) → r ≡ None → Reads text r → KindOf text k → TakenIn text i kinds values (set kinds i k) (set values i 0) (not (eqb k 0))
   other-in r k e o q = record { one = one; none = none }
     where
       one : not (eqb k 0) ≡ true → WordIn text i kinds values (set kinds i k) (set values i 0)

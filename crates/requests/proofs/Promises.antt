@@ -6,6 +6,7 @@
 --   list_read    a list that runs to the end is read whole
 --   lists_read    two lists about a `/` are read whole, the first up to it and the second after it
 --   end_fits, family_fits, number_fits, slash_fits, here_fits, nowhere_fits, raw_fits, list_fits    the words that fit a pattern: none at its end, then by its first letter a family, a number, the `/`, `here`, `nowhere`, `raw`, or as many numbers as its list has at most, and after them what fits the rest
+use Rattle.std.specs.Prelude.{None}
 use mathlib.Core.Bool.{Bool, true, false}
 use mathlib.Core.Path.{◌≡◌, refl, sym, ap, ap₂, subst, ◌∙◌}
 use mathlib.Core.Logic.{◌⊎◌, inl, inr}
@@ -23,8 +24,6 @@ use Rattle.words.specs.declared.Family.TheVariants.{Forbidden, Allowed}
 use Rattle.text.specs.Text.{Found}
 use Rattle.text.specs.Numeral.{value_from, Numeral}
 use Rattle.text.proofs.Found.{found_first}
-use Rattle.requests.specs.declared.Begun.TheVariants as begun
-use Rattle.requests.specs.declared.Rest.TheVariants as taken
 use Rattle.requests.specs.Protocol.{texts_from, LineWord, number, family, slash, here, nowhere, raw, Spells, AllSpell, Lent, enough, places, Opens, Asks}
 use Rattle.requests.specs.Parts.{BeginsAt, Begins, kinds_of, values_of, TakesAll, Takes, family_at}
 use Rattle.requests.specs.Patterns.{numbers_in, fits_pattern}
@@ -97,13 +96,13 @@ module _ (line : List ℕ) (room from end : ℕ) (b : BeginsAt line room from en
   pub taken_apart : (n : ℕ) (t : TakesAll (texts_from line (end + 1)) kinds values kinds' values' n) → Asks line b.lent (take (end - from) (drop from line)) t.words
   taken_apart n t = record { rest = texts_from line (end + 1); opens = b.opens; says = t.says }
 
-  pub bad-words : Takes (texts_from line (end + 1)) kinds values kinds' values' taken.Bad → (lent : Lent) (verb : List ℕ) (xs : List LineWord)
+  pub bad-words : Takes (texts_from line (end + 1)) kinds values kinds' values' None → (lent : Lent) (verb : List ℕ) (xs : List LineWord)
       → length xs ≤ length kinds → length xs ≤ length values → Asks line lent verb xs → ⊥
   bad-words d lent verb xs k v o =
       let same = one_opening line lent b.lent verb (take (end - from) (drop from line)) o.rest (texts_from line (end + 1)) o.opens b.opens in
       d xs k v (subst (λ (ts : List (List ℕ)). AllSpell ts xs) same.1.1 o.says)
 
-pub bad_head : (line : List ℕ) → Begins line begun.Bad → (lent : Lent) (verb : List ℕ) (xs : List LineWord) → Asks line lent verb xs → ⊥
+pub bad_head : (line : List ℕ) → Begins line None → (lent : Lent) (verb : List ℕ) (xs : List LineWord) → Asks line lent verb xs → ⊥
 bad_head line d lent verb xs o = d lent verb o.rest o.opens
 
 -- ---- the words by their places

@@ -1,25 +1,22 @@
 -- A request as `requests` takes it apart: where its verb stands, and for each word after it a byte for its kind and a value. Assumes nothing.
 --   room_of lent    how many places a request is lent: the largest number where it is lent what suffices
---   Begins line r    r is where the verb stands and how many places the request is lent, and bad exactly if no request begins so
+--   Begins line r    r is where the verb stands and how many places the request is lent, and none exactly if no request begins so
 --   VerbAt line room from r    the same of a verb that is looked for at a place, of a request that is lent so many places
 --   AfterRoom line at r    the same of a number at a place and the verb after it
 --   kind_of x, value_of x    the kind of a word: n a number, f and a the families, / itself, h and w `here` and `nowhere`, r `raw`; a number is its value, and 0 that of the others
 --   kinds_of xs, values_of xs    those of a list of words
 --   KindOf text k    k is the kind of the word other than a number that a text says, and 0 exactly if it says none
 --   TakenIn text i kinds values kinds' values' r    whether the text says a word, whose kind and value then stand at place i
---   Takes texts kinds values kinds' values' r    r is how many words the texts say, their kinds and values then stand in the first places; it is bad exactly if they say none, or more than there are places
+--   Takes texts kinds values kinds' values' r    r is how many words the texts say, their kinds and values then stand in the first places; it is none exactly if they say none, or more than there are places
 --   family_at kinds i    the family whose kind stands at a place
-use Rattle.std.specs.Prelude.{Bool, true, false, List, [], ◌∷◌, ◌++◌, map, ◌≡◌, ℕ, ◌+◌, ◌-◌, ◌^◌, ◌≤◌, ◌<◌, eqb, length, take, drop, get_or, set}
+use Rattle.std.specs.Prelude.{Option, Some, None, Bool, true, false, List, [], ◌∷◌, ◌++◌, map, ◌≡◌, ℕ, ◌+◌, ◌-◌, ◌^◌, ◌≤◌, ◌<◌, eqb, length, take, drop, get_or, set}
 use Rattle.words.specs.Pick.{pick}
 use Rattle.words.specs.declared.Family.{Family}
 use Rattle.words.specs.declared.Family.TheVariants.{Forbidden, Allowed}
 use Rattle.text.specs.Names.{name_of}
 use Rattle.text.specs.Numeral.{Numeral}
-use Rattle.requests.specs.declared.Begun.{Begun}
-use Rattle.requests.specs.declared.Begun.TheVariants as begun
-use Rattle.requests.specs.declared.Rest.{Rest}
-use Rattle.requests.specs.declared.Rest.TheVariants as rest
 use Rattle.requests.specs.Protocol.{texts_from, LineWord, number, family, slash, here, nowhere, raw, here_name, nowhere_name, raw_name, Spells, AllSpell, Lent, enough, places, room_name, Opens}
+use Rattle.requests.specs.declared.Verb.{Verb}
 
 abbrev pub room_of : Lent → ℕ
 room_of enough = 2 ^ 64 - 1
@@ -32,9 +29,9 @@ pub record BeginsAt (line : List ℕ) (room from end : ℕ) : Type 0 where
   pub ordered : from ≤ end
   pub within : end ≤ length line
 
-abbrev pub Begins : List ℕ → Begun → Type 0
-Begins line (begun.Verb room from end) = BeginsAt line room from end
-Begins line begun.Bad = (lent : Lent) (verb : List ℕ) (texts : List (List ℕ)) → Opens line lent verb texts → ⊥
+abbrev pub Begins : List ℕ → Option Verb → Type 0
+Begins line (Some v) = BeginsAt line v.room v.from v.end
+Begins line None = (lent : Lent) (verb : List ℕ) (texts : List (List ℕ)) → Opens line lent verb texts → ⊥
 
 pub record VerbIs (line : List ℕ) (from end : ℕ) : Type 0 where
   pub texts : texts_from line from ≡ take (end - from) (drop from line) ∷ texts_from line (end + 1)
@@ -42,9 +39,9 @@ pub record VerbIs (line : List ℕ) (from end : ℕ) : Type 0 where
   pub ordered : from ≤ end
   pub within : end ≤ length line
 
-abbrev pub VerbAt : List ℕ → ℕ → ℕ → Begun → Type 0
-VerbAt line room from (begun.Verb r f end) = (r ≡ room) × ((f ≡ from) × VerbIs line f end)
-VerbAt line room from begun.Bad = (verb : List ℕ) (rest : List (List ℕ)) → texts_from line from ≡ verb ∷ rest → (verb ≡ room_name → ⊥) → ⊥
+abbrev pub VerbAt : List ℕ → ℕ → ℕ → Option Verb → Type 0
+VerbAt line room from (Some v) = (v.room ≡ room) × ((v.from ≡ from) × VerbIs line v.from v.end)
+VerbAt line room from None = (verb : List ℕ) (rest : List (List ℕ)) → texts_from line from ≡ verb ∷ rest → (verb ≡ room_name → ⊥) → ⊥
 
 pub record RoomIs (line : List ℕ) (at room from end : ℕ) : Type 0 where
   pub numeral : List ℕ
@@ -53,9 +50,9 @@ pub record RoomIs (line : List ℕ) (at room from end : ℕ) : Type 0 where
   pub fits : room < 2 ^ 64
   pub verb : VerbIs line from end
 
-abbrev pub AfterRoom : List ℕ → ℕ → Begun → Type 0
-AfterRoom line at (begun.Verb room from end) = RoomIs line at room from end
-AfterRoom line at begun.Bad =
+abbrev pub AfterRoom : List ℕ → ℕ → Option Verb → Type 0
+AfterRoom line at (Some v) = RoomIs line at v.room v.from v.end
+AfterRoom line at None =
     (numeral verb : List ℕ) (rest : List (List ℕ)) (n : ℕ) → texts_from line at ≡ numeral ∷ (verb ∷ rest) → Numeral numeral n → n < 2 ^ 64 → (verb ≡ room_name → ⊥) → ⊥
 
 abbrev pub kind_of : LineWord → ℕ
@@ -114,9 +111,9 @@ pub record TakesAll (texts : List (List ℕ)) (kinds values kinds' values' : Lis
   pub kinds_hold : n ≤ length kinds'
   pub values_hold : n ≤ length values'
 
-abbrev pub Takes : List (List ℕ) → List ℕ → List ℕ → List ℕ → List ℕ → Rest → Type 0
-Takes texts kinds values kinds' values' (rest.Words n) = TakesAll texts kinds values kinds' values' n
-Takes texts kinds values kinds' values' rest.Bad = (xs : List LineWord) → length xs ≤ length kinds → length xs ≤ length values → AllSpell texts xs → ⊥
+abbrev pub Takes : List (List ℕ) → List ℕ → List ℕ → List ℕ → List ℕ → Option ℕ → Type 0
+Takes texts kinds values kinds' values' (Some n) = TakesAll texts kinds values kinds' values' n
+Takes texts kinds values kinds' values' None = (xs : List LineWord) → length xs ≤ length kinds → length xs ≤ length values → AllSpell texts xs → ⊥
 
 abbrev pub family_at : List ℕ → ℕ → Family
 family_at kinds i = pick (eqb (get_or kinds i 0) 97) Allowed Forbidden

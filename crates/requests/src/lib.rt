@@ -8,65 +8,59 @@ ghost use Rattle.requests.specs.Protocol.{texts_from};
 ghost use Rattle.requests.specs.Parts.{Begins, VerbAt, AfterRoom, KindOf, TakenIn, Takes, family_at};
 ghost use Rattle.requests.specs.Patterns.{stands_for, numbers_in, fits_pattern, after_list, After, Wants};
 
-use text::{Named, Number};
 use words::Family;
 
-// Where the verb of a line stands, and how many places it is lent before that.
+// Where the verb of a line stands, and how many places it is lent before that: the verb's first place and the place after it.
 #[derive(Clone, Copy)]
-pub enum Begun {
-    // the places lent, and the verb's first place and the place after it
-    Verb(u64, usize, usize),
-    Bad,
-}
-
-// What stands after the verb.
-#[derive(Clone, Copy)]
-pub enum Rest {
-    Words(usize),
-    Bad,
+pub struct Verb {
+    pub room: u64,
+    pub from: usize,
+    pub end: usize,
 }
 
 // A request that is lent `room` places and whose verb begins at place `from`; no verb is `room`.
-fn verb_at(line: &[u8], room: u64, from: usize) -> Begun
+fn verb_at(line: &[u8], room: u64, from: usize) -> Option<Verb>
     requires { from ≤ length line.now }
     ensures { VerbAt line.now room from result }
 {
     let end = text::find(line, from, b' ');
     if check::same(&line[from..end], b"room") {
-        return Begun::Bad;
+        return None;
     }
-    Begun::Verb(room, from, end)
+    Some(Verb { room, from, end })
 }
 
 // The places lent and the verb after them, for a line with a number at place `from`.
-fn after_room(line: &[u8], from: usize) -> Begun
+fn after_room(line: &[u8], from: usize) -> Option<Verb>
     ensures { AfterRoom line.now from result }
 {
     if from > line.len() {
-        return Begun::Bad;
+        return None;
     }
     let end = text::find(line, from, b' ');
     if end == line.len() {
-        return Begun::Bad;
+        return None;
     }
-    let Number::Is(room) = text::read_number(&line[from..end]) else {
-        return Begun::Bad;
-    };
+    let room = text::read_number(&line[from..end])?;
     verb_at(line, room, end + 1)
 }
 
 // The verb of a line, after `room R` where the line begins with that.
-pub fn head(line: &[u8]) -> Begun
+pub fn head(line: &[u8]) -> Option<Verb>
     ensures { Begins line.now result }
 {
     if line.len() > 262144 {
-        return Begun::Bad;
+        return None;
     }
     let end = text::find(line, 0, b' ');
     if check::same(&line[0..end], b"room") {
         return after_room(line, end + 1);
     }
-    Begun::Verb(u64::MAX, 0, end)
+    Some(Verb {
+        room: u64::MAX,
+        from: 0,
+        end,
+    })
 }
 
 // The kind of a word that is no number, or 0 if it has none.
@@ -86,11 +80,9 @@ fn kind(word: &[u8]) -> u8
         return b'r';
     }
     match text::family(word) {
-        Named::Family(f) => match f {
-            Family::Forbidden => b'f',
-            Family::Allowed => b'a',
-        },
-        Named::Nothing => 0,
+        Some(Family::Forbidden) => b'f',
+        Some(Family::Allowed) => b'a',
+        None => 0,
     }
 }
 
@@ -100,12 +92,12 @@ fn take(word: &[u8], i: usize, kinds: &mut [u8], values: &mut [u64]) -> bool
     ensures { TakenIn word.now i kinds.old values.old kinds.new values.new result }
 {
     match text::read_number(word) {
-        Number::Is(n) => {
+        Some(n) => {
             kinds[i] = b'n';
             values[i] = n;
             true
         }
-        Number::Bad => {
+        None => {
             let k = kind(word);
             kinds[i] = k;
             values[i] = 0;
@@ -115,40 +107,37 @@ fn take(word: &[u8], i: usize, kinds: &mut [u8], values: &mut [u64]) -> bool
 }
 
 // The words from place `from` on, one space between two of them, if there are places for them all.
-pub fn words(line: &[u8], from: usize, kinds: &mut [u8], values: &mut [u64]) -> Rest
+pub fn words(line: &[u8], from: usize, kinds: &mut [u8], values: &mut [u64]) -> Option<usize>
     ensures { Takes (texts_from line.now from) kinds.old values.old kinds.new values.new result }
 {
+    let places = kinds.len().min(values.len());
     let mut at = from;
-    let mut n = 0;
-    while at <= line.len() {
-        if n >= kinds.len() {
-            return Rest::Bad;
-        }
-        if n >= values.len() {
-            return Rest::Bad;
+    for n in 0..places {
+        if at > line.len() {
+            return Some(n);
         }
         let end = text::find(line, at, b' ');
         if !take(&line[at..end], n, kinds, values) {
-            return Rest::Bad;
+            return None;
         }
-        n += 1;
         at = end + 1;
     }
-    Rest::Words(n)
+    if at <= line.len() {
+        return None;
+    }
+    Some(places)
 }
 
 // The place after the numbers that stand from place i on.
 fn after_numbers(kinds: &[u8], i: usize) -> usize
     ensures { result ≡ i + numbers_in (drop i kinds.now) }
 {
-    let mut to = i;
-    while to < kinds.len() {
+    for to in i..kinds.len() {
         if kinds[to] != b'n' {
             return to;
         }
-        to += 1;
     }
-    to
+    i.max(kinds.len())
 }
 
 // The place after the list at place i, or a place past the end if it has more than the most numbers.
@@ -199,10 +188,8 @@ fn are(kinds: &[u8], pattern: &[u8]) -> bool
     ensures { result ≡ fits_pattern pattern.now kinds.now }
 {
     let mut i = 0;
-    let mut j = 0;
-    while j < pattern.len() {
-        i = after(kinds, i, pattern[j]);
-        j += 1;
+    for letter in pattern {
+        i = after(kinds, i, *letter);
     }
     i == kinds.len()
 }

@@ -6,10 +6,11 @@
 --   plain-bad, plain-great, plain-is    a word with no `-` in front writes a number where its digits do, below 2 ^ 63
 --   minus-bad, minus-zero, minus-great, minus_is    a word with `-` in front does where its other bytes write a number that is not 0 and at most 2 ^ 63
 --   one_signed    a text writes one signed number at most
+use Rattle.std.specs.Prelude.{Option, Some, None}
 use mathlib.Core.Path.{◌≡◌, refl, sym, ap, ap₂, subst, ◌∙◌}
 use mathlib.Core.Bool.{Bool, true, false, cond}
 use mathlib.Core.List.{List, [], ◌∷◌}
-use Prim.Native.Nat.{ℕ, zero, suc, ◌+◌, ◌-◌, ◌^◌, ◌≤◌, ◌<◌}
+use Prim.Native.Nat.{ℕ, zero, suc, ◌-◌, ◌^◌, ◌≤◌, ◌<◌}
 use native.Mathlib.Nat.{suc_inj}
 use native.Mathlib.Omega.{arith}
 use lib.ListN.{length, take, drop, get_or}
@@ -21,9 +22,6 @@ use mir.Syntax.{w64}
 use mir.Val.{SFits, to_z, of_z}
 use mir.ValLaws.{to_z-of_z}
 use Rattle.text.specs.Numeral.{value_from, Numeral, Reads}
-use Rattle.text.specs.declared.Number.{Number}
-use Rattle.text.specs.declared.Number.TheVariants as read
-use Rattle.spelling.specs.declared.Whole.TheVariants as whole
 use Rattle.spelling.specs.Signed.{Minus, SignedNumeral, InRange, ReadsSigned}
 
 -- ---- the numbers
@@ -68,20 +66,20 @@ module _ (z : ℤ) (f : SFits w64 z) where
 -- ---- the words
 
 module _ (word : List ℕ) where
-  pub no-numeral : length word ≡ 0 → ReadsSigned word whole.Bad
+  pub no-numeral : length word ≡ 0 → ReadsSigned word None
   no-numeral e (pos n) h s = omega (arith, s.some)
   no-numeral e (negsuc n) h s = omega (arith, ap length s.whole)
 
   module _ (d : get_or word 0 0 ≡ 45 → ⊥) where
-    pub plain-bad : (r : Number) → r ≡ read.Bad → Reads word r → ReadsSigned word whole.Bad
+    pub plain-bad : (r : Option ℕ) → r ≡ None → Reads word r → ReadsSigned word None
     plain-bad r e o (pos n) h s = subst (Reads word) e o n (omega (arith, h)) s
     plain-bad r e o (negsuc n) h s = d (ap (λ (t : List ℕ). get_or t 0 0) s.whole)
 
-    pub plain-great : (r : Number) (m : ℕ) → r ≡ read.Is m → Reads word r → 2 ^ 63 ≤ m → ReadsSigned word whole.Bad
+    pub plain-great : (r : Option ℕ) (m : ℕ) → r ≡ Some m → Reads word r → 2 ^ 63 ≤ m → ReadsSigned word None
     plain-great r m e o l (pos n) h s = omega (arith, sym (subst (Reads word) e o).0.value ∙ s.value, h)
     plain-great r m e o l (negsuc n) h s = d (ap (λ (t : List ℕ). get_or t 0 0) s.whole)
 
-  pub plain-is : (r : Number) (m : ℕ) (z : ℤ) → r ≡ read.Is m → Reads word r → m < 2 ^ 63 → z ≡ pos m → ReadsSigned word (whole.Is z)
+  pub plain-is : (r : Option ℕ) (m : ℕ) (z : ℤ) → r ≡ Some m → Reads word r → m < 2 ^ 63 → z ≡ pos m → ReadsSigned word (Some z)
   plain-is r m z e o l q = subst (λ (x : ℤ). SignedNumeral word x × InRange x) (sym q) ((subst (Reads word) e o).0, l)
 
   -- the bytes after the first
@@ -103,23 +101,23 @@ module _ (word : List ℕ) where
     same_digits : (n : ℕ) (s : Minus word n) → Numeral others n
     same_digits n s = let q = split in let p = s.whole in let e : s.digits ≡ others = cc in subst (λ (t : List ℕ). Numeral t n) e s.writes
 
-    pub minus-bad : (r : Number) → r ≡ read.Bad → Reads others r → ReadsSigned word whole.Bad
+    pub minus-bad : (r : Option ℕ) → r ≡ None → Reads others r → ReadsSigned word None
     minus-bad r e o (pos n) h s = no_plain n s
     minus-bad r e o (negsuc n) h s = subst (Reads others) e o (suc n) (omega (arith, h)) (same_digits (suc n) s)
 
-    module _ (r : Number) (m : ℕ) (e : r ≡ read.Is m) (o : Reads others r) where
+    module _ (r : Option ℕ) (m : ℕ) (e : r ≡ Some m) (o : Reads others r) where
       value : (n : ℕ) → Minus word n → m ≡ n
       value n s = sym (subst (Reads others) e o).0.value ∙ (same_digits n s).value
 
-      pub minus-zero : m ≡ 0 → ReadsSigned word whole.Bad
+      pub minus-zero : m ≡ 0 → ReadsSigned word None
       minus-zero l (pos n) h s = no_plain n s
       minus-zero l (negsuc n) h s = omega (arith, value (suc n) s)
 
-      pub minus-great : 2 ^ 63 < m → ReadsSigned word whole.Bad
+      pub minus-great : 2 ^ 63 < m → ReadsSigned word None
       minus-great l (pos n) h s = no_plain n s
       minus-great l (negsuc n) h s = omega (arith, value (suc n) s, h)
 
-      pub minus_is : (z : ℤ) → 0 < m → m ≤ 2 ^ 63 → z ≡ negsuc (m - 1) → ReadsSigned word (whole.Is z)
+      pub minus_is : (z : ℤ) → 0 < m → m ≤ 2 ^ 63 → z ≡ negsuc (m - 1) → ReadsSigned word (Some z)
       minus_is z l k q =
           let s : m ≡ suc (m - 1) = omega arith in
           subst (λ (x : ℤ). SignedNumeral word x × InRange x) (sym q)

@@ -6,11 +6,11 @@
 --   one_bytes    a text writes one list of bytes at most
 use mathlib.Core.Path.{◌≡◌, refl, sym, ap, ap₂, subst, ◌∙◌}
 use mathlib.Core.List.{List, [], ◌∷◌, ◌++◌}
-use Prim.Native.Nat.{ℕ, zero, suc, ◌+◌, ◌-◌, ◌*◌, ◌/◌, ◌%◌, ◌≤◌, ◌<◌}
+use Prim.Native.Nat.{ℕ, zero, suc, ◌+◌, ◌*◌, ◌/◌, ◌%◌, ◌≤◌, ◌<◌}
 use native.Mathlib.Nat.{le_of_suc-le-suc}
 use native.Mathlib.Numerals.{add-one}
 use native.Mathlib.Omega.{arith}
-use lib.ListN.{length, take, drop, get_or, set}
+use lib.ListN.{length, drop, get_or, set}
 use lib.Seq.{paste, paste-suc, take-length}
 use Rattle.spelling.specs.Hex.{digit_text, hex_of, bytes_text, AllBytes, SpellsBytes, IsBytes, ByteOf, IsHex, AllDigits}
 use Rattle.spelling.proofs.Digits.{one_digit}

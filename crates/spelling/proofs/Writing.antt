@@ -45,14 +45,14 @@ module _ (out bytes : List ℕ) (at : ℕ) where
   pairs-full d h l =
       record { fits = λ k. absurd (omega (arith, long bytes d)); full = λ k. (refl, omega arith); within = omega arith }
 
-  pub pairs-put : (i : ℕ) (out' : List ℕ) → (length bytes ≡ 0 → ⊥) → i ≡ length bytes → at + 2 * length bytes ≤ length out → out' ≡ paste out at (hex_of bytes) (2 * i)
-      → Put out at (bytes_text bytes) out' (at + 2 * i)
-  pairs-put i out' d q h e = go bytes d q h e
+  pub pairs-put : (out' : List ℕ) → (length bytes ≡ 0 → ⊥) → at + 2 * length bytes ≤ length out → out' ≡ paste out at (hex_of bytes) (2 * length bytes)
+      → Put out at (bytes_text bytes) out' (at + 2 * length bytes)
+  pairs-put out' d h e = go bytes d h e
     where
-      go : (bs : List ℕ) → (length bs ≡ 0 → ⊥) → i ≡ length bs → at + 2 * length bs ≤ length out → out' ≡ paste out at (hex_of bs) (2 * i) → Put out at (bytes_text bs) out' (at + 2 * i)
-      go [] d q h e = absurd (d refl)
-      go (b ∷ bs) d q h e =
-          let n : 2 * i ≡ length (hex_of (b ∷ bs)) = omega (arith, hex_long (b ∷ bs)) in
+      go : (bs : List ℕ) → (length bs ≡ 0 → ⊥) → at + 2 * length bs ≤ length out → out' ≡ paste out at (hex_of bs) (2 * length bs) → Put out at (bytes_text bs) out' (at + 2 * length bs)
+      go [] d h e = absurd (d refl)
+      go (b ∷ bs) d h e =
+          let n : 2 * length (b ∷ bs) ≡ length (hex_of (b ∷ bs)) = omega (arith, hex_long (b ∷ bs)) in
           record {
             fits = λ l. (
               e ∙ ap (paste out at (hex_of (b ∷ bs))) n

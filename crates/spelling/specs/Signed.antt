@@ -3,10 +3,8 @@
 --   InRange z    z is of 64 bits
 --   ReadsSigned text r    what reading a word answers: the number in range whose numeral it is, and nothing exactly if there is none
 --   size_of z    how far z is from 0
-use Rattle.std.specs.Prelude.{List, ◌∷◌, ◌≡◌, ℕ, suc, ◌^◌, ◌<◌, ℤ, pos, negsuc}
+use Rattle.std.specs.Prelude.{Option, Some, None, List, ◌∷◌, ◌≡◌, ℕ, suc, ◌^◌, ◌<◌, ℤ, pos, negsuc}
 use Rattle.text.specs.Numeral.{Numeral}
-use Rattle.spelling.specs.declared.Whole.{Whole}
-use Rattle.spelling.specs.declared.Whole.TheVariants.{Is, Bad}
 
 pub record Minus (text : List ℕ) (n : ℕ) : Type 0 where
   pub digits : List ℕ
@@ -21,9 +19,9 @@ abbrev pub InRange : ℤ → Type 0
 InRange (pos n) = n < 2 ^ 63
 InRange (negsuc n) = n < 2 ^ 63
 
-abbrev pub ReadsSigned : List ℕ → Whole → Type 0
-ReadsSigned text (Is z) = SignedNumeral text z × InRange z
-ReadsSigned text Bad = (z : ℤ) → InRange z → SignedNumeral text z → ⊥
+abbrev pub ReadsSigned : List ℕ → Option ℤ → Type 0
+ReadsSigned text (Some z) = SignedNumeral text z × InRange z
+ReadsSigned text None = (z : ℤ) → InRange z → SignedNumeral text z → ⊥
 
 abbrev pub size_of : ℤ → ℕ
 size_of (pos n) = n

@@ -7,15 +7,6 @@ ghost use Rattle.text.specs.Text.{Put};
 ghost use Rattle.spelling.specs.Hex.{digit_text, HexDigit, ByteOf, AllDigits, IsBytes, bytes_text, BytesIn};
 ghost use Rattle.spelling.specs.Signed.{ReadsSigned, size_of};
 
-use text::Number;
-
-// What a word says as a signed number: a number from -2^63 to 2^63 - 1, or none.
-#[derive(Clone, Copy)]
-pub enum Whole {
-    Is(i64),
-    Bad,
-}
-
 // The value of a hex digit in lower case, and 16 of any other byte.
 fn digit(b: u8) -> u8
     ensures { HexDigit b result }
@@ -39,12 +30,10 @@ fn digit(b: u8) -> u8
 fn all_digits(text: &[u8]) -> bool
     ensures { (result ≡ true → AllDigits text.now) × (AllDigits text.now → result ≡ true) }
 {
-    let mut i = 0;
-    while i < text.len() {
-        if digit(text[i]) > 15 {
+    for b in text {
+        if digit(*b) > 15 {
             return false;
         }
-        i += 1;
     }
     true
 }
@@ -80,24 +69,13 @@ fn byte(high: u8, low: u8) -> u8
     16 * h + l
 }
 
-fn lesser(m: usize, n: usize) -> usize
-    ensures { (result ≤ m) × (result ≤ n) × (m ≤ n → result ≡ m) }
-{
-    if m <= n {
-        return m;
-    }
-    n
-}
-
 // The bytes that a text writes, into the first places of a lent buffer that holds them: answers how many they are.
 pub fn bytes(text: &[u8], out: &mut [u8]) -> usize
     ensures { BytesIn text.now out.old out.new result }
 {
-    let n = lesser(text.len() / 2, out.len());
-    let mut i = 0;
-    while i < n {
+    let n = out.len().min(text.len() / 2);
+    for i in 0..n {
         out[i] = byte(text[2 * i], text[2 * i + 1]);
-        i += 1;
     }
     n
 }
@@ -140,13 +118,11 @@ pub fn put_bytes(out: &mut [u8], at: usize, bytes: &[u8]) -> usize
     if bytes.len() > (out.len() - at) / 2 {
         return at;
     }
-    let mut i = 0;
-    while i < bytes.len() {
-        out[at + 2 * i] = high(bytes[i]);
-        out[at + (2 * i + 1)] = low(bytes[i]);
-        i += 1;
+    for (i, b) in bytes.iter().enumerate() {
+        out[at + 2 * i] = high(*b);
+        out[at + (2 * i + 1)] = low(*b);
     }
-    at + 2 * i
+    at + 2 * bytes.len()
 }
 
 // The number n.
@@ -166,31 +142,27 @@ fn negative(n: u64) -> i64
 }
 
 // The signed number that a word writes in decimal.
-pub fn read_signed(word: &[u8]) -> Whole
+pub fn read_signed(word: &[u8]) -> Option<i64>
     ensures { ReadsSigned word.now result }
 {
     if word.len() == 0 {
-        return Whole::Bad;
+        return None;
     }
     if word[0] != b'-' {
-        let Number::Is(n) = text::read_number(word) else {
-            return Whole::Bad;
-        };
+        let n = text::read_number(word)?;
         if n > 9223372036854775807 {
-            return Whole::Bad;
+            return None;
         }
-        return Whole::Is(positive(n));
+        return Some(positive(n));
     }
-    let Number::Is(n) = text::read_number(&word[1..]) else {
-        return Whole::Bad;
-    };
+    let n = text::read_number(&word[1..])?;
     if n == 0 {
-        return Whole::Bad;
+        return None;
     }
     if n > 9223372036854775808 {
-        return Whole::Bad;
+        return None;
     }
-    Whole::Is(negative(n))
+    Some(negative(n))
 }
 
 // How far a signed number is from 0.

@@ -19,6 +19,7 @@ pub fn read_full(rt: &impl Input, buffer: &mut [u8]) -> io::Result<usize>
     ensures { IfOk result (λ n. n ≤ length buffer.new) }
 {
     let mut n = 0;
+    // A turn goes on by as many bytes as came, which no range says.
     while n < buffer.len() {
         let k = read_some(rt, &mut buffer[n..])?;
         if k == 0 {

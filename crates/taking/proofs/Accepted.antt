@@ -9,6 +9,7 @@
 --   took, took_both    what the code's verdict makes of an answer is what taking the record makes of it
 --   verdict_accepted, both_verdict_accepted    a verdict that accepts is of an accepted record
 --   few_bits, wide-alphabet, narrow-alphabet    as the code counts: 64 bits have at most 64 ones, and the width of a record is that of its alphabet or more
+use Rattle.std.specs.Prelude.{Result, Ok, Err}
 use mathlib.Core.Path.{◌≡◌, refl, sym, ap, subst, ◌∙◌}
 use mathlib.Core.Bool.{Bool, true, false}
 use mathlib.Core.Logic.{◌↔◌}
@@ -34,9 +35,8 @@ use Rattle.answers.specs.Says.{Says, gives, refused_if}
 use Rattle.answers.specs.Terms.{index_of, word_of}
 use Rattle.answers.proofs.Says.{passed}
 use Rattle.answers.proofs.Terms.{word_of_index, word_long, word-monotone, shifted-word}
-use Rattle.taking.specs.declared.Verdict.{Verdict}
-use Rattle.taking.specs.declared.Verdict.TheVariants as verdict
 use Rattle.taking.specs.Taken.{shifted_alphabet_of, too_wide, outside, taken, taken_both, Accepted, verdict_of, verdict_of_both, through}
+use Rattle.answers.specs.declared.Refusal.{Refusal}
 
 -- ---- the cheap test
 
@@ -104,18 +104,18 @@ taken_gives x s v e = go (passed (too_wide x) 1 (refused_if (outside x) 7 s) v e
 -- ---- by the code's verdict
 
 -- v is the verdict of the code, and w what it was found to be
-pub took : {A : Type 0} (x : Index) (s : Says A) (v w : Verdict) → v ≡ verdict_of x → v ≡ w → through w s ≡ taken x s
-took {A} x s v w e f = ap (λ (z : Verdict). through z s) (sym f ∙ e) ∙ go (too_wide x) (outside x)
+pub took : {A : Type 0} (x : Index) (s : Says A) (v w : Result Unit Refusal) → v ≡ verdict_of x → v ≡ w → through w s ≡ taken x s
+took {A} x s v w e f = ap (λ (z : Result Unit Refusal). through z s) (sym f ∙ e) ∙ go (too_wide x) (outside x)
   where
-    go : (t u : Bool) → through (pick t (verdict.Refused TooWide) (pick u (verdict.Refused Outside) verdict.Accepted)) s ≡ refused_if t 1 (refused_if u 7 s)
+    go : (t u : Bool) → through (pick t (Err TooWide) (pick u (Err Outside) (Ok tt))) s ≡ refused_if t 1 (refused_if u 7 s)
     go true u = refl
     go false true = refl
     go false false = refl
 
-pub took_both : {A : Type 0} (x y : Index) (s : Says A) (v w : Verdict) → v ≡ verdict_of_both x y → v ≡ w → through w s ≡ taken_both x y s
-took_both {A} x y s v w e f = ap (λ (z : Verdict). through z s) (sym f ∙ e) ∙ go (too_wide x) (too_wide y) (outside x) (outside y)
+pub took_both : {A : Type 0} (x y : Index) (s : Says A) (v w : Result Unit Refusal) → v ≡ verdict_of_both x y → v ≡ w → through w s ≡ taken_both x y s
+took_both {A} x y s v w e f = ap (λ (z : Result Unit Refusal). through z s) (sym f ∙ e) ∙ go (too_wide x) (too_wide y) (outside x) (outside y)
   where
-    go : (t t' u u' : Bool) → through (pick t (verdict.Refused TooWide) (pick t' (verdict.Refused TooWide) (pick u (verdict.Refused Outside) (pick u' (verdict.Refused Outside) verdict.Accepted)))) s
+    go : (t t' u u' : Bool) → through (pick t (Err TooWide) (pick t' (Err TooWide) (pick u (Err Outside) (pick u' (Err Outside) (Ok tt))))) s
         ≡ refused_if t 1 (refused_if t' 1 (refused_if u 7 (refused_if u' 7 s)))
     go true t' u u' = refl
     go false true u u' = refl
@@ -124,10 +124,10 @@ took_both {A} x y s v w e f = ap (λ (z : Verdict). through z s) (sym f ∙ e) �
     go false false false false = refl
 
 -- an accepted record, from the code's verdict
-pub verdict_accepted : (x : Index) (v : Verdict) → v ≡ verdict_of x → v ≡ verdict.Accepted → Accepted x
-verdict_accepted x v e f = go (too_wide x) refl (outside x) refl (sym e ∙ f)
+pub verdict_accepted : (x : Index) (v : Result Unit Refusal) (w : Unit {0}) → v ≡ verdict_of x → v ≡ Ok w → Accepted x
+verdict_accepted x v w e f = go (too_wide x) refl (outside x) refl (sym e ∙ f)
   where
-    go : (t : Bool) → too_wide x ≡ t → (u : Bool) → outside x ≡ u → pick t (verdict.Refused TooWide) (pick u (verdict.Refused Outside) verdict.Accepted) ≡ verdict.Accepted → Accepted x
+    go : (t : Bool) → too_wide x ≡ t → (u : Bool) → outside x ≡ u → pick t (Err TooWide) (pick u (Err Outside) (Ok (tt {0}))) ≡ Ok w → Accepted x
     go true p u q h = absurd (let z : ◌≡◌ {A = ℕ} 0 1 = cc in omega arith)
     go false p true q h = absurd (let z : ◌≡◌ {A = ℕ} 0 1 = cc in omega arith)
     go false p false q h = passes-accepted x p q
@@ -152,11 +152,11 @@ narrow-alphabet x t =
 
 -- ---- two records
 
-pub both_verdict_accepted : (x y : Index) (v : Verdict) → v ≡ verdict_of_both x y → v ≡ verdict.Accepted → Accepted x × Accepted y
-both_verdict_accepted x y v e f = go (too_wide x) refl (too_wide y) refl (outside x) refl (outside y) refl (sym e ∙ f)
+pub both_verdict_accepted : (x y : Index) (v : Result Unit Refusal) (w : Unit {0}) → v ≡ verdict_of_both x y → v ≡ Ok w → Accepted x × Accepted y
+both_verdict_accepted x y v w e f = go (too_wide x) refl (too_wide y) refl (outside x) refl (outside y) refl (sym e ∙ f)
   where
     go : (t : Bool) → too_wide x ≡ t → (t' : Bool) → too_wide y ≡ t' → (u : Bool) → outside x ≡ u → (u' : Bool) → outside y ≡ u'
-        → pick t (verdict.Refused TooWide) (pick t' (verdict.Refused TooWide) (pick u (verdict.Refused Outside) (pick u' (verdict.Refused Outside) verdict.Accepted))) ≡ verdict.Accepted
+        → pick t (Err TooWide) (pick t' (Err TooWide) (pick u (Err Outside) (pick u' (Err Outside) (Ok (tt {0}))))) ≡ Ok w
         → Accepted x × Accepted y
     go true p t' p' u q u' q' h = absurd (let z : ◌≡◌ {A = ℕ} 0 1 = cc in omega arith)
     go false p true p' u q u' q' h = absurd (let z : ◌≡◌ {A = ℕ} 0 1 = cc in omega arith)

@@ -7,7 +7,7 @@
 --   taken_both x y s    1 if either is too wide; 7 if either has a symbol outside; otherwise s
 --   Accepted x    the record is taken: `accepted_is_a_word` says that it is a word over n
 --   verdict_of x, verdict_of_both x y, through v s    the same as a value, and what a call goes on to say after it
-use Rattle.std.specs.Prelude.{Bool, ℕ, ◌≤◌, ltb, length}
+use Rattle.std.specs.Prelude.{Result, Ok, Err, Bool, ℕ, ◌≤◌, ltb, length}
 use Rattle.words.specs.Pick.{pick}
 use Rattle.words.specs.Word.{Below, shifted_alphabet}
 use Rattle.bits.specs.Member.{reaches}
@@ -15,8 +15,7 @@ use Rattle.answers.specs.declared.Index.{Index}
 use Rattle.answers.specs.declared.Refusal.TheVariants.{TooWide, Outside}
 use Rattle.answers.specs.Says.{Says, refuses_with, refused_if, number_of, carried_by}
 use Rattle.answers.specs.Terms.{word_of}
-use Rattle.taking.specs.declared.Verdict.{Verdict}
-use Rattle.taking.specs.declared.Verdict.TheVariants as verdict
+use Rattle.answers.specs.declared.Refusal.{Refusal}
 
 abbrev pub shifted_alphabet_of : Index → ℕ
 shifted_alphabet_of x = shifted_alphabet x.family x.alphabet (length (word_of x))
@@ -39,14 +38,14 @@ pub record Accepted (x : Index) : Type 0 where
 
 -- ---- as a value
 
-abbrev pub verdict_of : Index → Verdict
-verdict_of x = pick (too_wide x) (verdict.Refused TooWide) (pick (outside x) (verdict.Refused Outside) verdict.Accepted)
+abbrev pub verdict_of : Index → Result Unit Refusal
+verdict_of x = pick (too_wide x) (Err TooWide) (pick (outside x) (Err Outside) (Ok tt))
 
-abbrev pub verdict_of_both : Index → Index → Verdict
+abbrev pub verdict_of_both : Index → Index → Result Unit Refusal
 verdict_of_both x y =
-    pick (too_wide x) (verdict.Refused TooWide)
-    (pick (too_wide y) (verdict.Refused TooWide) (pick (outside x) (verdict.Refused Outside) (pick (outside y) (verdict.Refused Outside) verdict.Accepted)))
+    pick (too_wide x) (Err TooWide)
+    (pick (too_wide y) (Err TooWide) (pick (outside x) (Err Outside) (pick (outside y) (Err Outside) (Ok tt))))
 
-abbrev pub through : {A : Type 0} → Verdict → Says A → Says A
-through verdict.Accepted s = s
-through (verdict.Refused e) s = refuses_with (number_of e) (carried_by e)
+abbrev pub through : {A : Type 0} → Result Unit Refusal → Says A → Says A
+through (Ok tt) s = s
+through (Err e) s = refuses_with (number_of e) (carried_by e)

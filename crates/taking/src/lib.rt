@@ -8,13 +8,6 @@ ghost use Rattle.taking.specs.Taken.{shifted_alphabet_of as top_of, too_wide, ou
 use answers::{Index, Refusal};
 use words::Family;
 
-// Whether a record is taken, or why not.
-#[derive(Clone, Copy)]
-pub enum Verdict {
-    Accepted,
-    Refused(Refusal),
-}
-
 // The alphabet of the shifted words: n for Forbidden or degree 0, otherwise n + k - 1.
 pub fn shifted_alphabet(family: Family, n: u64, k: u64) -> u64
     requires { (n ≤ 64) × (k ≤ 128) }
@@ -69,33 +62,33 @@ pub fn outside(x: Index) -> bool
 }
 
 // One record: 1 if its shifted alphabet is above 64; 7 if a symbol is not below its alphabet.
-pub fn take(x: Index) -> Verdict
+pub fn take(x: Index) -> Result<(), Refusal>
     ensures { result ≡ verdict_of x }
 {
     if wide(x) {
-        return Verdict::Refused(Refusal::TooWide);
+        return Err(Refusal::TooWide);
     }
     if outside(x) {
-        return Verdict::Refused(Refusal::Outside);
+        return Err(Refusal::Outside);
     }
-    Verdict::Accepted
+    Ok(())
 }
 
 // Two records: the 1 of either, then the 7 of either.
-pub fn take_both(x: Index, y: Index) -> Verdict
+pub fn take_both(x: Index, y: Index) -> Result<(), Refusal>
     ensures { result ≡ verdict_of_both x y }
 {
     if wide(x) {
-        return Verdict::Refused(Refusal::TooWide);
+        return Err(Refusal::TooWide);
     }
     if wide(y) {
-        return Verdict::Refused(Refusal::TooWide);
+        return Err(Refusal::TooWide);
     }
     if outside(x) {
-        return Verdict::Refused(Refusal::Outside);
+        return Err(Refusal::Outside);
     }
     if outside(y) {
-        return Verdict::Refused(Refusal::Outside);
+        return Err(Refusal::Outside);
     }
-    Verdict::Accepted
+    Ok(())
 }

@@ -1,16 +1,16 @@
 // The requests on terms whose answers carry a sign, and the stabilizer (document 01, "Terms and their order").
 use answers::Index;
-use replies::Reply;
+use replies::{Answered, Reply};
 
 // The requests on a word in any order, and on two indices.
-pub(crate) fn products(verb: &[u8], kinds: &[u8], values: &[u64]) -> Reply {
+pub(crate) fn products(verb: &[u8], kinds: &[u8], values: &[u64]) -> Answered {
     let f = requests::family(kinds, 0);
     if requests::asks(verb, kinds, b"canonical Fn*") {
-        return Reply::Signed(algebra::canonicalise(
+        return Ok(Some(Reply::Signed(algebra::canonicalise(
             f,
             requests::number(values, 1),
             requests::list(values, 2),
-        ));
+        )?)));
     }
     let x = Index {
         family: f,
@@ -23,13 +23,13 @@ pub(crate) fn products(verb: &[u8], kinds: &[u8], values: &[u64]) -> Reply {
         bits: requests::number(values, 5),
     };
     if requests::asks(verb, kinds, b"merge FnnFnn") {
-        return Reply::Signed(algebra::merge(x, y));
+        return Ok(Some(Reply::Signed(algebra::merge(x, y)?)));
     }
-    Reply::Bad
+    Ok(None)
 }
 
 // The requests on one index.
-pub(crate) fn of_index(verb: &[u8], kinds: &[u8], values: &[u64]) -> Reply {
+pub(crate) fn of_index(verb: &[u8], kinds: &[u8], values: &[u64]) -> Answered {
     let x = Index {
         family: requests::family(kinds, 0),
         alphabet: requests::number(values, 1),
@@ -37,13 +37,13 @@ pub(crate) fn of_index(verb: &[u8], kinds: &[u8], values: &[u64]) -> Reply {
     };
     let p = requests::number(values, 3);
     if requests::asks(verb, kinds, b"delete Fnnn") {
-        return Reply::Deleted(deletion::delete(x, p));
+        return Ok(Some(Reply::Deleted(deletion::delete(x, p)?)));
     }
     if requests::asks(verb, kinds, b"complement Fnnn") {
-        return Reply::Signed(deletion::complement(x, p));
+        return Ok(Some(Reply::Signed(deletion::complement(x, p)?)));
     }
     if requests::asks(verb, kinds, b"stabilizer Fnn") {
-        return Reply::Number(deletion::stabilizer(x));
+        return Ok(Some(Reply::Number(deletion::stabilizer(x)?)));
     }
-    Reply::Bad
+    Ok(None)
 }

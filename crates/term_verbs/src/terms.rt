@@ -1,126 +1,107 @@
 // The requests on terms (document 01, "Terms and their order").
-use answers::{Answer, Index, Indexed, Refusal};
-use monotone_walk::{Current, Started, Stepped, Walk};
-use replies::Reply;
+use answers::{Index, Refusal};
+use monotone_walk::Walk;
+use replies::{Answered, Reply};
 use words::Family;
 
 // The index that the s-th step of a walk gives, or the first refusal on the way.
-fn stepped(walk: Walk, s: u64) -> Indexed {
+fn stepped(walk: Walk, s: u64) -> Result<Index, Refusal> {
     let mut w = walk;
-    let mut i = 1;
-    while i < s {
-        match monotone_walk::step(w) {
-            Stepped::Step(_, next) => {
-                w = next;
-                i += 1;
-            }
-            Stepped::Refused(e) => {
-                return Indexed::Refused(e);
-            }
-        }
+    for _ in 1..s {
+        w = monotone_walk::step(w)?.state;
     }
-    match monotone_walk::step(w) {
-        Stepped::Step(x, _) => Indexed::At(x),
-        Stepped::Refused(e) => Indexed::Refused(e),
-    }
+    Ok(monotone_walk::step(w)?.index)
 }
 
 // The same without the steps before it: a walk lists the words in their order, so its s-th step gives the index of rank s - 1.
-fn far_step(f: Family, n: u64, k: u64, s: u64) -> Indexed {
-    match monotone_count::count(f, n, k) {
-        Answer::Is(count) => {
-            if s > count {
-                return Indexed::Refused(Refusal::Last);
-            }
-            if s == 0 {
-                return Indexed::Refused(Refusal::Last);
-            }
-            monotone_unrank::unrank_over(f, n, k, s - 1)
-        }
-        Answer::Refused(e) => Indexed::Refused(e),
+fn far_step(f: Family, n: u64, k: u64, s: u64) -> Result<Index, Refusal> {
+    let count = monotone_count::count(f, n, k)?;
+    if s > count {
+        return Err(Refusal::Last);
     }
+    if s == 0 {
+        return Err(Refusal::Last);
+    }
+    monotone_unrank::unrank_over(f, n, k, s - 1)
 }
 
 // What the s-th step of a walk gives: by steps up to the 4,096th, and by the rank beyond.
-fn walked(f: Family, n: u64, k: u64, s: u64) -> Indexed {
+fn walked(f: Family, n: u64, k: u64, s: u64) -> Result<Index, Refusal> {
     if s > 4096 {
         return far_step(f, n, k, s);
     }
-    match monotone_count::start(f, n, k) {
-        Started::Walk(w) => stepped(w, s),
-        Started::Refused(e) => Indexed::Refused(e),
-    }
+    stepped(monotone_count::start(f, n, k)?, s)
 }
 
-fn walk(f: Family, n: u64, k: u64, s: u64) -> Reply {
+fn walk(f: Family, n: u64, k: u64, s: u64) -> Answered {
     if s == 0 {
-        return Reply::Bad;
+        return Ok(None);
     }
-    Reply::Index(walked(f, n, k, s))
+    Ok(Some(Reply::Index(walked(f, n, k, s)?)))
 }
 
 // The requests that name an alphabet, or every one.
-pub(crate) fn over(verb: &[u8], kinds: &[u8], values: &[u64], lent: &mut [u64]) -> Reply {
+pub(crate) fn over(verb: &[u8], kinds: &[u8], values: &[u64], lent: &mut [u64]) -> Answered {
     let f = requests::family(kinds, 0);
     let a = requests::number(values, 1);
     let b = requests::number(values, 2);
     let c = requests::number(values, 3);
     if requests::asks(verb, kinds, b"count Fnn") {
-        return Reply::Number(monotone_count::count(f, a, b));
+        return Ok(Some(Reply::Number(monotone_count::count(f, a, b)?)));
     }
     if requests::asks(verb, kinds, b"walk Fnnn") {
         return walk(f, a, b, c);
     }
     if requests::asks(verb, kinds, b"unrank Fnnn") {
-        return Reply::Places(monotone_unrank::unrank(f, a, b, c, lent));
+        return Ok(Some(Reply::Places(monotone_unrank::unrank(f, a, b, c, lent)?)));
     }
     if requests::asks(verb, kinds, b"unrankover Fnnn") {
-        return Reply::Index(monotone_unrank::unrank_over(f, a, b, c));
+        return Ok(Some(Reply::Index(monotone_unrank::unrank_over(f, a, b, c)?)));
     }
     if requests::asks(verb, kinds, b"unrankany Fnn") {
-        return Reply::Index(monotone_unrank::unrank_any(f, a, b));
+        return Ok(Some(Reply::Index(monotone_unrank::unrank_any(f, a, b)?)));
     }
-    Reply::Bad
+    Ok(None)
 }
 
 // The requests on a walk that was made up.
-pub(crate) fn of_walk(verb: &[u8], kinds: &[u8], values: &[u64]) -> Reply {
+pub(crate) fn of_walk(verb: &[u8], kinds: &[u8], values: &[u64]) -> Answered {
     if requests::asks(verb, kinds, b"step hFnnn") {
-        let current = Current::At(Index {
+        let current = Some(Index {
             family: requests::family(kinds, 1),
             alphabet: requests::number(values, 2),
             bits: requests::number(values, 3),
         });
         let remaining = requests::number(values, 4);
-        return Reply::Step(monotone_walk::step(Walk { current, remaining }));
+        return Ok(Some(Reply::Step(monotone_walk::step(Walk { current, remaining })?)));
     }
     if requests::asks(verb, kinds, b"step wFn") {
-        let current = Current::Nothing;
+        let current = None;
         let remaining = requests::number(values, 2);
-        return Reply::Step(monotone_walk::step(Walk { current, remaining }));
+        return Ok(Some(Reply::Step(monotone_walk::step(Walk { current, remaining })?)));
     }
-    Reply::Bad
+    Ok(None)
 }
 
 // The requests on a word.
-pub(crate) fn of_word(verb: &[u8], kinds: &[u8], values: &[u64]) -> Reply {
+pub(crate) fn of_word(verb: &[u8], kinds: &[u8], values: &[u64]) -> Answered {
     let f = requests::family(kinds, 0);
     let w = requests::list(values, 1);
     if requests::asks(verb, kinds, b"rank F*") {
-        return Reply::Number(monotone_rank::rank(f, w));
+        return Ok(Some(Reply::Number(monotone_rank::rank(f, w)?)));
     }
     if requests::asks(verb, kinds, b"pack Fn*") {
-        return Reply::Index(monotone::pack(
+        return Ok(Some(Reply::Index(monotone::pack(
             f,
             requests::number(values, 1),
             requests::list(values, 2),
-        ));
+        )?)));
     }
-    Reply::Bad
+    Ok(None)
 }
 
 // The requests on an index.
-pub(crate) fn of_index(verb: &[u8], kinds: &[u8], values: &[u64], lent: &mut [u64]) -> Reply {
+pub(crate) fn of_index(verb: &[u8], kinds: &[u8], values: &[u64], lent: &mut [u64]) -> Answered {
     let x = Index {
         family: requests::family(kinds, 0),
         alphabet: requests::number(values, 1),
@@ -128,19 +109,19 @@ pub(crate) fn of_index(verb: &[u8], kinds: &[u8], values: &[u64], lent: &mut [u6
     };
     let p = requests::number(values, 3);
     if requests::asks(verb, kinds, b"rankof Fnn") {
-        return Reply::Number(monotone_rank::rank_of(x));
+        return Ok(Some(Reply::Number(monotone_rank::rank_of(x)?)));
     }
     if requests::asks(verb, kinds, b"unpack Fnn") {
-        return Reply::Places(monotone::unpack(x, lent));
+        return Ok(Some(Reply::Places(monotone::unpack(x, lent)?)));
     }
     if requests::asks(verb, kinds, b"next Fnn") {
-        return Reply::Index(monotone_walk::successor(x));
+        return Ok(Some(Reply::Index(monotone_walk::successor(x)?)));
     }
     if requests::asks(verb, kinds, b"symbol Fnnn") {
-        return Reply::Number(monotone::symbol(x, p));
+        return Ok(Some(Reply::Number(monotone::symbol(x, p)?)));
     }
     if requests::asks(verb, kinds, b"degree Fnn") {
-        return Reply::Number(monotone::degree(x));
+        return Ok(Some(Reply::Number(monotone::degree(x)?)));
     }
-    Reply::Bad
+    Ok(None)
 }

@@ -1,10 +1,9 @@
 // What document 01's program writes for one line: the header, and the words of a family in their order.
 #![tactic(auto)]
 
-use answers::{Answer, Index, Refusal};
-use monotone_walk::{Started, Stepped, Walk};
+use answers::{Index, Refusal};
+use monotone_walk::Walk;
 use std::io;
-use terms_line::Line;
 use words::Family;
 
 fn put_refusal(out: &mut [u8], at: usize, e: Refusal) -> usize {
@@ -35,14 +34,12 @@ fn put_header(out: &mut [u8], at: usize, f: Family, n: u64, k: u64, count: u64) 
 // The first k symbols of a word, each after a space.
 pub fn put_symbols(out: &mut [u8], at: usize, word: &[u64], k: u64) -> usize {
     let mut to = at;
-    let mut i = 0;
-    while i < word.len() {
+    for (i, s) in word.iter().enumerate() {
         if i as u64 == k {
             return to;
         }
         to = text::put_byte(out, to, b' ');
-        to = text::put_number(out, to, word[i]);
-        i += 1;
+        to = text::put_number(out, to, *s);
     }
     to
 }
@@ -50,7 +47,7 @@ pub fn put_symbols(out: &mut [u8], at: usize, word: &[u64], k: u64) -> usize {
 // The line of one word: its rank, a colon, and its symbols. One of 64 symbols takes fewer than 512 bytes.
 fn put_word(rt: &impl Print, out: &mut [u8], at: usize, r: u64, x: Index) -> io::Result<usize> {
     let mut word = [0u64; 64];
-    let Answer::Is(k) = monotone::unpack(x, &mut word) else {
+    let Ok(k) = monotone::unpack(x, &mut word) else {
         return Ok(at);
     };
     let at = streams::with_room(rt, out, at, 512)?;
@@ -70,39 +67,38 @@ fn put_words(
 ) -> io::Result<usize> {
     let mut to = at;
     let mut w = walk;
-    let mut r = 0;
-    while r < count {
-        let Stepped::Step(x, next) = monotone_walk::step(w) else {
+    for r in 0..count {
+        let Ok(moved) = monotone_walk::step(w) else {
             return Ok(to);
         };
-        to = put_word(rt, out, to, r, x)?;
-        w = next;
-        r += 1;
+        to = put_word(rt, out, to, r, moved.index)?;
+        w = moved.state;
     }
     Ok(to)
 }
 
 // The words of a family, if there are 4,096 or fewer, after the header.
 fn put_terms(rt: &impl Print, out: &mut [u8], f: Family, n: u64, k: u64) -> io::Result<usize> {
-    match monotone_count::count(f, n, k) {
-        Answer::Is(count) => {
-            let at = put_header(out, 0, f, n, k, count);
-            if count > 4096 {
-                return Ok(at);
-            }
-            let Started::Walk(w) = monotone_count::start(f, n, k) else {
-                return Ok(at);
-            };
-            put_words(rt, out, at, w, count)
+    let count = match monotone_count::count(f, n, k) {
+        Ok(count) => count,
+        Err(e) => {
+            return Ok(put_refusal(out, 0, e));
         }
-        Answer::Refused(e) => Ok(put_refusal(out, 0, e)),
+    };
+    let at = put_header(out, 0, f, n, k, count);
+    if count > 4096 {
+        return Ok(at);
     }
+    let Ok(w) = monotone_count::start(f, n, k) else {
+        return Ok(at);
+    };
+    put_words(rt, out, at, w, count)
 }
 
 fn put_answer(rt: &impl Print, out: &mut [u8], held: &[u8]) -> io::Result<usize> {
     match terms_line::first(held) {
-        Line::Words(f, n, k) => put_terms(rt, out, f, n, k),
-        Line::Bad => Ok(text::put(out, 0, b"bad line\n")),
+        Some(asked) => put_terms(rt, out, asked.family, asked.n, asked.k),
+        None => Ok(text::put(out, 0, b"bad line\n")),
     }
 }
 

@@ -22,6 +22,7 @@ fn read_line(from: &mut impl Read, buffer: &mut [u8]) -> io::Result<usize>
     ensures { IfOk result (λ n. n ≤ length buffer.new) }
 {
     let mut n = 0;
+    // A turn goes on by as many bytes as came, which no range says.
     while n < buffer.len() {
         let k = read_some(from, &mut buffer[n..])?;
         if k == 0 {

@@ -4,6 +4,7 @@
 --   parts_of_asks, space_of_asks    the parts of a line that asks for words; it has a space
 --   no_name, no-first, no_second    a line of which a part is no family or no number is bad
 --   all-parts    a line whose three parts are a family and two numbers asks for their words
+use Rattle.std.specs.Prelude.{Option, Some, None}
 use mathlib.Core.Path.{◌≡◌, sym, ap, ap₂, subst, ◌∙◌}
 use mathlib.Core.List.{List, [], ◌∷◌, ◌++◌}
 use Prim.Native.Nat.{ℕ, zero, suc, ◌+◌, ◌-◌, ◌<◌}
@@ -18,13 +19,8 @@ use Rattle.words.specs.declared.Family.{Family}
 use Rattle.words.specs.declared.Family.TheVariants.{Forbidden, Allowed}
 use Rattle.text.specs.Text.{Found}
 use Rattle.text.specs.Names.{name_of, Names}
-use Rattle.text.specs.declared.Named.{Named}
-use Rattle.text.specs.declared.Named.TheVariants as named
 use Rattle.text.specs.Numeral.{Numeral, Reads}
-use Rattle.text.specs.declared.Number.{Number}
-use Rattle.text.specs.declared.Number.TheVariants as number
 use Rattle.text.proofs.Found.{found-later, found_first}
-use Rattle.terms_line.specs.declared.Line.TheVariants as line
 use Rattle.terms_line.specs.Line.{AsksWords, Parses}
 
 -- the text about a space
@@ -117,19 +113,19 @@ module _ (text : List ℕ) (a b : ℕ) (f : Found text 0 32 a) (g : Found text (
   abbrev part-3 : List ℕ
   part-3 = take (length text - (b + 1)) (drop (b + 1) text)
 
-  pub no_name : (r : Named) → r ≡ named.Nothing → Names part-1 r → Parses text line.Bad
+  pub no_name : (r : Option Family) → r ≡ None → Names part-1 r → Parses text None
   no_name r e h F n k o = subst (Names part-1) e h F (part-1-is ∙ (parts_of_asks text a b F n k f g o).name)
 
-  pub no-first : (r : Number) → r ≡ number.Bad → Reads part-2 r → Parses text line.Bad
+  pub no-first : (r : Option ℕ) → r ≡ None → Reads part-2 r → Parses text None
   no-first r e h F n k o =
       subst (Reads part-2) e h n o.first_fits (subst (λ (w : List ℕ). Numeral w n) (sym (parts_of_asks text a b F n k f g o).first) o.first_writes)
 
-  pub no_second : (r : Number) → r ≡ number.Bad → Reads part-3 r → Parses text line.Bad
+  pub no_second : (r : Option ℕ) → r ≡ None → Reads part-3 r → Parses text None
   no_second r e h F n k o =
       subst (Reads part-3) e h k o.second_fits (subst (λ (w : List ℕ). Numeral w k) (sym (parts_of_asks text a b F n k f g o).second) o.second-writes)
 
-  pub all-parts : (r : Named) (x y : Number) (F : Family) (n k : ℕ) → (a ≡ length text → ⊥) → (b ≡ length text → ⊥) → r ≡ named.Family F → Names part-1 r
-      → x ≡ number.Is n → Reads part-2 x → y ≡ number.Is k → Reads part-3 y → AsksWords text F n k
+  pub all-parts : (r : Option Family) (x y : Option ℕ) (F : Family) (n k : ℕ) → (a ≡ length text → ⊥) → (b ≡ length text → ⊥) → r ≡ Some F → Names part-1 r
+      → x ≡ Some n → Reads part-2 x → y ≡ Some k → Reads part-3 y → AsksWords text F n k
   all-parts r x y F n k p q e h e₂ h₂ e₃ h₃ =
       let first_says = subst (Reads part-2) e₂ h₂ in
       let second-says = subst (Reads part-3) e₃ h₃ in

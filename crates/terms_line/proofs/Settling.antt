@@ -1,6 +1,7 @@
 -- The first line of an input, from its first bytes. Assumes nothing.
 --   longest_line_lem, longest_is_asked    a line that asks for words has 51 bytes at most, and one has so many
 --   first_answers    what the bytes up to the first newline ask for is what the first line asks for, whatever follows what settles it
+use Rattle.std.specs.Prelude.{Option, Some, None}
 use mathlib.Core.Bool.{Bool, true, false}
 use mathlib.Core.Path.{◌≡◌, refl, sym, ap, subst, ◌∙◌}
 use mathlib.Core.List.{List, [], ◌∷◌, ◌++◌, append-nil}
@@ -18,9 +19,8 @@ use Rattle.text.specs.Text.{Found}
 use Rattle.text.specs.Names.{name_of}
 use Rattle.text.specs.Numeral.{IsDigit, value_from, Numeral}
 use Rattle.text.proofs.Numeral.{numeral_within}
-use Rattle.terms_line.specs.declared.Line.{Line}
-use Rattle.terms_line.specs.declared.Line.TheVariants as line
 use Rattle.terms_line.specs.Line.{AsksWords, Parses, first_line, line_limit, Settled, ended, newline, long, Answers}
+use Rattle.terms_line.specs.declared.Words.{Words}
 
 -- ---- the longest line
 
@@ -67,9 +67,9 @@ longest_is_asked = (
 )
 
 -- two lines that are longer than every good one ask for the same
-too_long_lem : (s t : List ℕ) (r : Line) → line_limit < length s → line_limit < length t → Parses s r → Parses t r
-too_long_lem s t (line.Words F n k) h l p = absurd (omega (arith, longest_line_lem s F n k p))
-too_long_lem s t line.Bad h l p = λ F n k o. omega (arith, longest_line_lem t F n k o)
+too_long_lem : (s t : List ℕ) (r : Option Words) → line_limit < length s → line_limit < length t → Parses s r → Parses t r
+too_long_lem s t (Some w) h l p = absurd (omega (arith, longest_line_lem s w.family w.n w.k p))
+too_long_lem s t None h l p = λ F n k o. omega (arith, longest_line_lem t F n k o)
 
 -- ---- the first line
 
@@ -87,7 +87,7 @@ line_through [] more none = refl
 line_through (b ∷ s) more none =
     simp (ne_eqb b 10 (none 0 (omega arith))) (ap (λ (l : List ℕ). b ∷ l) (line_through s more (λ k l q. none (suc k) (omega arith) q)))
 
-pub first_answers : (held : List ℕ) (e : ℕ) (r : Line) → Found held 0 10 e → Parses (take (e - 0) held) r → Answers held r
+pub first_answers : (held : List ℕ) (e : ℕ) (r : Option Words) → Found held 0 10 e → Parses (take (e - 0) held) r → Answers held r
 unfolding first_line
 first_answers held e r f p more = go (ltb e (length held)) refl
   where

@@ -4,7 +4,7 @@
 --   Spelled rest t n    t writes the last digits of n, and rest is the number that the digits before them write
 --   spelled_first, spelled_more    the last digit, and one more in front of others
 --   spelled_all    with no digit left, t is the numeral of n
---   room_for_digit    a number below 10 ^ i that is not 0 has a digit, and leaves a number below 10 ^ (i - 1)
+--   room_for_digit    a number below 10 ^ i leaves a number below 10 ^ (i - 1) after its last digit
 --   set_front    a text from the place of a store on
 use mathlib.Core.Path.{◌≡◌, sym, ap, ap₂, subst, ◌∙◌}
 use mathlib.Core.List.{List, [], ◌∷◌}
@@ -61,11 +61,11 @@ spelled_more rest t n p o = record { some = omega arith; digits = each; plain = 
 pub spelled_all : (t : List ℕ) (rest n : ℕ) → rest ≡ 0 → Spelled rest t n → Numeral t n
 spelled_all t rest n e o = record { some = o.some; digits = o.digits; plain = o.plain e; value = ap (λ (v : ℕ). value_from v t) (sym e) ∙ o.value }
 
-pub room_for_digit : (rest i : ℕ) → 0 < rest → rest < 10 ^ i → (0 < i) × (rest / 10 < 10 ^ (i - 1))
+pub room_for_digit : (rest i : ℕ) → 0 < i → rest < 10 ^ i → rest / 10 < 10 ^ (i - 1)
 room_for_digit rest zero p h = absurd (omega arith)
 room_for_digit rest (suc i) p h =
     let e : suc i - 1 ≡ i = omega arith in
-    (omega arith, subst (λ (j : ℕ). rest / 10 < 10 ^ j) (sym e) (omega (arith, pow-succ' 10 i)))
+    subst (λ (j : ℕ). rest / 10 < 10 ^ j) (sym e) (omega (arith, pow-succ' 10 i))
 
 pub set_front : (l : List ℕ) (i v : ℕ) → i < length l → drop i (set l i v) ≡ v ∷ drop (suc i) l
 set_front l i v h =

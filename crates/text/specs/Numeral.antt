@@ -4,9 +4,7 @@
 --   Numeral w n    w is the decimal numeral of n: one digit or more, and none in front of others is a zero
 --   Reads w r    what reading the word w answers: the number below 2 ^ 64 whose numeral it is, and nothing exactly if there is none
 --   PutNumeral out at n out' next    the numeral of n is put into the text out
-use Rattle.std.specs.Prelude.{List, [], ◌∷◌, ◌≡◌, ℕ, ◌+◌, ◌-◌, ◌*◌, ◌^◌, ◌≤◌, ◌<◌, length, get_or}
-use Rattle.text.specs.declared.Number.{Number}
-use Rattle.text.specs.declared.Number.TheVariants.{Is, Bad}
+use Rattle.std.specs.Prelude.{Option, Some, None, List, [], ◌∷◌, ◌≡◌, ℕ, ◌+◌, ◌-◌, ◌*◌, ◌^◌, ◌≤◌, ◌<◌, length, get_or}
 use Rattle.text.specs.Text.{Put}
 
 abbrev pub IsDigit : ℕ → Type 0
@@ -22,9 +20,9 @@ pub record Numeral (w : List ℕ) (n : ℕ) : Type 0 where
   pub plain : 1 < length w → get_or w 0 0 ≡ 48 → ⊥
   pub value : value_from 0 w ≡ n
 
-abbrev pub Reads : List ℕ → Number → Type 0
-Reads w (Is n) = Numeral w n × (n < 2 ^ 64)
-Reads w Bad = (n : ℕ) → n < 2 ^ 64 → Numeral w n → ⊥
+abbrev pub Reads : List ℕ → Option ℕ → Type 0
+Reads w (Some n) = Numeral w n × (n < 2 ^ 64)
+Reads w None = (n : ℕ) → n < 2 ^ 64 → Numeral w n → ⊥
 
 pub record PutNumeral (out : List ℕ) (at n : ℕ) (out' : List ℕ) (next : ℕ) : Type 0 where
   pub numeral : List ℕ

@@ -8,35 +8,16 @@ ghost use Rattle.text.specs.Names.{Names};
 
 use words::Family;
 
-// What a word says as a number: a number below 2^64, or none.
-#[derive(Clone, Copy)]
-pub enum Number {
-    Is(u64),
-    Bad,
-}
-
-// What a word names: a family, or none.
-#[derive(Clone, Copy)]
-pub enum Named {
-    Family(Family),
-    Nothing,
-}
-
 // The first place at or after `from` where b stands in s, or the length of s if there is none.
 pub fn find(s: &[u8], from: usize, b: u8) -> usize
     ensures { Found s.now from b result }
 {
-    if from > s.len() {
-        return s.len();
-    }
-    let mut i = from;
-    while i < s.len() {
+    for i in from..s.len() {
         if s[i] == b {
             return i;
         }
-        i += 1;
     }
-    i
+    s.len()
 }
 
 fn wide(x: u8) -> u64
@@ -46,48 +27,45 @@ fn wide(x: u8) -> u64
 }
 
 // The number that a word writes in decimal: below 2^64, and with no zero in front (01, "in decimal below 2^64 without leading zeros").
-pub fn read_number(word: &[u8]) -> Number
+pub fn read_number(word: &[u8]) -> Option<u64>
     ensures { Reads word.now result }
 {
     if word.len() == 0 {
-        return Number::Bad;
+        return None;
     }
     if word[0] == b'0' {
         if word.len() > 1 {
-            return Number::Bad;
+            return None;
         }
     }
     let mut n = 0u64;
-    let mut i = 0;
-    while i < word.len() {
-        let b = word[i];
-        if b < b'0' {
-            return Number::Bad;
+    for b in word {
+        if *b < b'0' {
+            return None;
         }
-        if b > b'9' {
-            return Number::Bad;
+        if *b > b'9' {
+            return None;
         }
-        let d = wide(b) - 48;
+        let d = wide(*b) - 48;
         if n > (18446744073709551615 - d) / 10 {
-            return Number::Bad;
+            return None;
         }
         n = n * 10 + d;
-        i += 1;
     }
-    Number::Is(n)
+    Some(n)
 }
 
 // The family that a word names.
-pub fn family(name: &[u8]) -> Named
+pub fn family(name: &[u8]) -> Option<Family>
     ensures { Names name.now result }
 {
     if check::same(name, b"forbidden") {
-        return Named::Family(Family::Forbidden);
+        return Some(Family::Forbidden);
     }
     if check::same(name, b"allowed") {
-        return Named::Family(Family::Allowed);
+        return Some(Family::Allowed);
     }
-    Named::Nothing
+    None
 }
 
 // Puts a byte string into a lent text from place `at` on, and answers the place after it. One that does not fit is not written, and
@@ -101,12 +79,9 @@ pub fn put(out: &mut [u8], at: usize, bytes: &[u8]) -> usize
     if bytes.len() > out.len() - at {
         return at;
     }
-    let mut i = 0;
-    while i < bytes.len() {
-        out[at + i] = bytes[i];
-        i += 1;
-    }
-    at + i
+    let end = at + bytes.len();
+    out[at..end].copy_from_slice(bytes);
+    end
 }
 
 // Puts one byte into a lent text at place `at`, as `put` does.
@@ -121,15 +96,16 @@ fn spell(n: u64, text: &mut [u8]) -> usize
     requires { length text.old ≡ 20 }
     ensures { (result < 20) × Numeral (drop result text.new) n }
 {
-    let mut i = 19;
     text[19] = 48 + (n % 10) as u8;
     let mut rest = n / 10;
-    while rest > 0 {
-        i -= 1;
+    for i in (0..19).rev() {
+        if rest == 0 {
+            return i + 1;
+        }
         text[i] = 48 + (rest % 10) as u8;
         rest /= 10;
     }
-    i
+    0
 }
 
 // Puts a number in decimal into a lent text from place `at` on, as `put` does.

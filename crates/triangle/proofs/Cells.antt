@@ -4,13 +4,11 @@
 --   square_small    the square of which a place is made is a machine word
 --   no_such_part    past the last part stands 0
 --   next_row    where the next row begins
---   row_before    a row that begins a next one below place 1024 is not row 64
 use mathlib.Core.Path.{◌≡◌, refl, sym, ap, ◌∙◌}
 use mathlib.Core.Bool.{Bool, true}
 use mathlib.Core.List.{List, []}
 use Prim.Native.Nat.{ℕ, ◌+◌, ◌-◌, ◌*◌, ◌/◌, ◌%◌, ◌^◌, ◌≤◌, ◌<◌, zero-le}
 use native.Mathlib.Nat.{mul-le-mul}
-use native.Mathlib.Decide.{dec_lt}
 use native.Mathlib.Omega.{arith}
 use borrow.Author.Tests.{le-leb, lt-ltb}
 use lib.Dec.{T, leb, ltb, eqb, eqb→eq, ltb→lt}
@@ -60,10 +58,3 @@ square_small n h =
 
 pub next_row : (n : ℕ) → n ≤ 64 → n * n / 4 ≡ (n - 1) * (n - 1) / 4 + n / 2
 next_row n h = eqb→eq (n * n / 4) ((n - 1) * (n - 1) / 4 + n / 2) (triangle_at begins 64 tt n 0 h zero-le)
-
-pub row_before : (n : ℕ) → n ≤ 64 → n * n / 4 < 1024 → n < 64
-row_before n h l = go (dec_lt n 64)
-  where
-    go : Dec (n < 64) → n < 64
-    go (yes y) = y
-    go (no y) = let e : n ≡ 64 = omega (arith, h, y) in absurd (omega (arith, l, ap (λ (m : ℕ). m * m / 4) e))

@@ -13,11 +13,12 @@ pub fn cell(h: u64, i: u64) -> u64
     if 15 < h {
         return 0;
     }
-    let mut n = 2u64;
     let mut rest = h * 64 + i;
-    while n / 2 <= rest {
+    for n in 2..64 {
+        if rest < n / 2 {
+            return pascal::recurrence(n, rest + 1);
+        }
         rest -= n / 2;
-        n += 1;
     }
-    pascal::recurrence(n, rest + 1)
+    pascal::recurrence(64, rest + 1)
 }

@@ -25,7 +25,9 @@ use Rattle.answers.specs.Signs.{sign_in}
 use Rattle.algebra.specs.Rules.{same_family, forbids}
 use Rattle.widths.specs.Rules.{word_in, count_in, held_says, checked_in, widest_in, successor_in, bits_says_in, delete_in}
 use Rattle.wide.specs.declared.Wide.{Wide}
-use Rattle.wide.specs.Answers.{whole_of, wide_of, WideTerm, WideGap}
+use Rattle.wide.specs.Answers.{whole_of, wide_of}
+use Rattle.wide.specs.declared.WideTerm.{WideTerm}
+use Rattle.wide.specs.declared.WideGap.{WideGap}
 
 abbrev pub as_wide : Family → Says ℕ → Says Wide
 as_wide F s = and_then s (λ a. gives (wide_of F a))

@@ -1,7 +1,7 @@
-// The wide index and the answers that carry it (document 02, section 9): a shifted alphabet up to 128. `specs/Rules` has what every call on it answers.
+// The wide index, and what carries it (document 02, section 9): a shifted alphabet up to 128. `specs/Rules` has what every call on it answers.
 #![tactic(auto)]
 
-use answers::{Refusal, Sign};
+use answers::Sign;
 use words::Family;
 
 // A wide index holds its family and the set of its shifted symbols, 0 to 63 as the bits of the low half and 64 to 127 as those of the high one. It names no
@@ -13,23 +13,17 @@ pub struct Wide {
     pub high: u64,
 }
 
-// A wide index, or why there is none.
+// A sign and a wide index.
 #[derive(Clone, Copy)]
-pub enum WideIndexed {
-    At(Wide),
-    Refused(Refusal),
+pub struct WideTerm {
+    pub sign: Sign,
+    pub index: Wide,
 }
 
-// A sign and a wide index, or why there are none.
+// A sign, the symbol that was deleted, and the index of what is left.
 #[derive(Clone, Copy)]
-pub enum WideSigned {
-    At(Sign, Wide),
-    Refused(Refusal),
-}
-
-// A sign, the symbol that was deleted, and the index of what is left, or why there are none.
-#[derive(Clone, Copy)]
-pub enum WideDeleted {
-    At(Sign, u64, Wide),
-    Refused(Refusal),
+pub struct WideGap {
+    pub sign: Sign,
+    pub symbol: u64,
+    pub index: Wide,
 }

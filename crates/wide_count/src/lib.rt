@@ -6,7 +6,7 @@ ghost use Rattle.words.specs.Word.{shifted_alphabet};
 ghost use Rattle.answers.specs.Says.{answer_says};
 ghost use Rattle.wide.specs.Rules.{wide_count_says};
 
-use answers::{Answer, Refusal};
+use answers::Refusal;
 use words::Family;
 
 // The alphabet of the shifted words: n for Forbidden or degree 0, otherwise n + k - 1.
@@ -21,22 +21,22 @@ pub fn shifted_alphabet(family: Family, n: u64, k: u64) -> u64
 }
 
 // How many words of k symbols below n there are: 1 if k or the shifted alphabet is above 128; 9 if there are 2^64 or more.
-pub fn count(family: Family, n: u64, k: u64) -> Answer
+pub fn count(family: Family, n: u64, k: u64) -> Result<u64, Refusal>
     ensures { answer_says result ≡ wide_count_says family n k }
 {
     if 128 < k {
-        return Answer::Refused(Refusal::TooWide);
+        return Err(Refusal::TooWide);
     }
     if 128 < n {
-        return Answer::Refused(Refusal::TooWide);
+        return Err(Refusal::TooWide);
     }
     let alphabet = shifted_alphabet(family, n, k);
     if 128 < alphabet {
-        return Answer::Refused(Refusal::TooWide);
+        return Err(Refusal::TooWide);
     }
     let c = wide_table::at(alphabet, k);
     if c == u64::MAX {
-        return Answer::Refused(Refusal::TooBig);
+        return Err(Refusal::TooBig);
     }
-    Answer::Is(c)
+    Ok(c)
 }

@@ -3,7 +3,7 @@
 --   symbol_from    for Allowed the shift can be taken off
 --   deleted_in    with the sign, the symbol and the closed digits, the answer is that of the deletion
 --   none_there, as_gap, no_gap    the refusal, and both for the wide index
-use mathlib.Core.Path.{◌≡◌, refl, sym, ap, ap₂, ◌∙◌}
+use mathlib.Core.Path.{◌≡◌, refl, sym, ap, ◌∙◌}
 use mathlib.Core.Bool.{true, false}
 use Prim.Native.Nat.{ℕ, ◌+◌, ◌-◌, ◌*◌, ◌/◌, ◌%◌, ◌^◌, ◌≤◌, ◌<◌}
 use native.Mathlib.Omega.{arith}
@@ -11,7 +11,7 @@ use borrow.Author.Tests.{lt-leb, le-leb}
 use lib.Dec.{leb}
 use lib.ListN.{length, get_or}
 use Rattle.words.specs.declared.Family.{Family}
-use Rattle.words.specs.declared.Family.TheVariants.{Forbidden, Allowed}
+use Rattle.words.specs.declared.Family.TheVariants.{Allowed}
 use Rattle.words.specs.Word.{shift, shifted}
 use Rattle.words.specs.Bits.{bits_of, set_bits}
 use Rattle.words.specs.Without.{without}
@@ -25,7 +25,7 @@ use Rattle.seam.specs.Joined.{joined}
 use Rattle.widths.specs.Rules.{word_in, delete_in}
 use Rattle.widths.proofs.Terms.{word_in_long}
 use Rattle.wide.specs.declared.Wide.{Wide}
-use Rattle.wide.specs.Answers.{whole_of, wide_of}
+use Rattle.wide.specs.Answers.{whole_of}
 use Rattle.wide.specs.Rules.{wide_delete_says}
 use Rattle.wide.proofs.Terms.{wide_of_whole}
 

@@ -2,12 +2,12 @@
 #![tactic(auto)]
 
 ghost use Rattle.std.specs.Prelude.{◌≡◌, ◌+◌, ◌*◌, ◌/◌, ◌%◌, ◌^◌, ◌≤◌, ◌<◌};
+ghost use Rattle.answers.specs.Says.{answer_says};
 ghost use Rattle.wide_bits.specs.Whole.{whole};
-ghost use Rattle.wide.specs.Answers.{wide_deleted_says};
 ghost use Rattle.wide.specs.Rules.{wide_delete_says};
 
 use answers::{Refusal, Sign};
-use wide::{Wide, WideDeleted};
+use wide::{Wide, WideGap};
 use wide_bits::Halves;
 use words::Family;
 
@@ -24,15 +24,15 @@ fn closed(a: Halves, s: u64, k: u64) -> Halves
 
 // The term without the symbol at position p: 7 if it has no such position. The sign is that of moving the symbol to the front, (-1)^p for
 // Forbidden and plus for Allowed; the symbol is unshifted.
-pub fn delete(x: Wide, p: u64) -> WideDeleted
-    ensures { wide_deleted_says result ≡ wide_delete_says x p }
+pub fn delete(x: Wide, p: u64) -> Result<WideGap, Refusal>
+    ensures { answer_says result ≡ wide_delete_says x p }
 {
     let family = x.family;
     let low = x.low;
     let high = x.high;
     let a = Halves { low, high };
     if wide_bits::count_ones(a) <= p {
-        return WideDeleted::Refused(Refusal::Outside);
+        return Err(Refusal::Outside);
     }
     let s = wide_bits::nth(a, p);
     match family {
@@ -40,14 +40,22 @@ pub fn delete(x: Wide, p: u64) -> WideDeleted
             let set = closed(a, s, s + 1);
             let low = set.low;
             let high = set.high;
-            WideDeleted::At(answers::from_parity(p), s, Wide { family, low, high })
+            Ok(WideGap {
+                sign: answers::from_parity(p),
+                symbol: s,
+                index: Wide { family, low, high },
+            })
         }
         Family::Allowed => {
             let symbol = s - p;
             let set = closed(a, s, s);
             let low = set.low;
             let high = set.high;
-            WideDeleted::At(Sign::Plus, symbol, Wide { family, low, high })
+            Ok(WideGap {
+                sign: Sign::Plus,
+                symbol,
+                index: Wide { family, low, high },
+            })
         }
     }
 }

@@ -29,7 +29,7 @@ use Rattle.words.proofs.Next.{next_long, next_monotone}
 use Rattle.words.proofs.Shifted.{rank-shifted, shifted-monotone}
 use Rattle.answers.specs.declared.Index.{Index}
 use Rattle.answers.specs.declared.Sign.{Sign}
-use Rattle.answers.specs.Says.{Says, gives, refused_if, and_then, SignedTerm}
+use Rattle.answers.specs.Says.{Says, gives, refused_if, and_then}
 use Rattle.answers.specs.Signs.{sign_in}
 use Rattle.answers.specs.Terms.{index_of, word_of}
 use Rattle.answers.proofs.Says.{gives_same, passed, then_gave}
@@ -47,7 +47,7 @@ use Rattle.monotone_unrank.proofs.Rules.{unrank_given}
 use Rattle.monotone_walk.specs.Rules.{successor_says}
 use Rattle.algebra.specs.Rules.{same_family, merge_says}
 use Rattle.algebra.proofs.Promises.{Passed, term_of, merge_passed, merged-term}
-use Rattle.deletion.specs.Rules.{Removed, delete_says, removed_says}
+use Rattle.deletion.specs.Rules.{delete_says, removed_says}
 use Rattle.deletion.proofs.Promises.{deletion_accepted}
 use Rattle.promises.proofs.Terms.{Succeeds, successor_given}
 use Rattle.widths.specs.Rules.{word_in, held_says, next_bits, successor_in, bits_says_in, Gap, delete_in}
@@ -55,11 +55,15 @@ use Rattle.widths.proofs.Counting.{held_gives}
 use Rattle.widths.proofs.Checking.{checked_in_gives}
 use Rattle.widths.proofs.Width.{fits_gives_in}
 use Rattle.wide.specs.declared.Wide.{Wide}
-use Rattle.wide.specs.Answers.{whole_of, wide_of, WideTerm, WideGap}
+use Rattle.wide.specs.Answers.{whole_of, wide_of}
 use Rattle.wide.specs.Rules.{as_wide, signed_wide, merged_wide_says, wide_count_says, wide_rank_says, wide_rank_of_says, wide_unrank_over_says, wide_unrank_says, wide_successor_says, wide_merge_says, wide_delete_says}
 use Rattle.wide.proofs.Counting.{wide_count_gives}
 use Rattle.wide.proofs.Unranking.{unranked}
 use Rattle.wide_promises.proofs.Terms.{wide_unrank_answers}
+use Rattle.answers.specs.declared.SignedTerm.{SignedTerm}
+use Rattle.deletion.specs.declared.Removed.{Removed}
+use Rattle.wide.specs.declared.WideTerm.{WideTerm}
+use Rattle.wide.specs.declared.WideGap.{WideGap}
 
 abbrev pub widened : Index → Wide
 widened x = record { family = x.family; low = x.bits; high = 0 }

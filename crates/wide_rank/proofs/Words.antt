@@ -1,13 +1,11 @@
 -- A given word, by its symbols. Assumes nothing.
 --   symbol_in    a shifted symbol is in the shifted alphabet
-use mathlib.Core.Path.{◌≡◌, sym, subst}
+use mathlib.Core.Path.{sym, subst}
 use mathlib.Core.List.{List}
-use Prim.Native.Nat.{ℕ, suc, ◌+◌, ◌≤◌, ◌<◌}
-use native.Mathlib.Omega.{arith}
-use native.Mathlib.Nat.{zero-lt-suc}
+use Prim.Native.Nat.{ℕ, ◌+◌, ◌<◌}
 use lib.ListN.{length, get_or}
 use Rattle.words.specs.declared.Family.{Family}
-use Rattle.words.specs.Word.{Monotone, Below, shift, shifted}
+use Rattle.words.specs.Word.{Below, shift, shifted}
 use Rattle.words.proofs.Positions.{below_at}
 use Rattle.words.proofs.Shifted.{shifted_at, shifted_long}
 

@@ -2,13 +2,13 @@
 #![tactic(auto)]
 
 ghost use Rattle.std.specs.Prelude.{◌≡◌};
+ghost use Rattle.answers.specs.Says.{answer_says};
 ghost use Rattle.seam.specs.Later.{later_in};
 ghost use Rattle.wide_bits.specs.Whole.{whole};
-ghost use Rattle.wide.specs.Answers.{wide_indexed_says};
 ghost use Rattle.wide.specs.Rules.{wide_successor_says};
 
 use answers::Refusal;
-use wide::{Wide, WideIndexed};
+use wide::Wide;
 use wide_bits::Halves;
 
 // The set after a among those of as many numbers below 128; empty if a is the last, or empty.
@@ -26,17 +26,17 @@ fn later(a: Halves) -> Halves
 }
 
 // The index of the next word of as many symbols: 4 if no index of that degree in 128 bits is later.
-pub fn successor(x: Wide) -> WideIndexed
-    ensures { wide_indexed_says result ≡ wide_successor_says x }
+pub fn successor(x: Wide) -> Result<Wide, Refusal>
+    ensures { answer_says result ≡ wide_successor_says x }
 {
     let family = x.family;
     let low = x.low;
     let high = x.high;
     let next = later(Halves { low, high });
     if wide_bits::is_empty(next) {
-        return WideIndexed::Refused(Refusal::Last);
+        return Err(Refusal::Last);
     }
     let low = next.low;
     let high = next.high;
-    WideIndexed::At(Wide { family, low, high })
+    Ok(Wide { family, low, high })
 }

@@ -6,33 +6,26 @@ ghost use Rattle.words.specs.Bits.{set_bits};
 ghost use Rattle.answers.specs.Says.{answer_says, places_of, after};
 ghost use Rattle.widths.specs.Rules.{word_in, widest_in};
 ghost use Rattle.wide_bits.specs.Whole.{whole};
-ghost use Rattle.wide.specs.Answers.{wide_indexed_says};
 ghost use Rattle.wide.specs.Rules.{wide_unrank_over_says, wide_unrank_says, wide_unrank_any_says};
 
-use answers::{Answer, Refusal};
-use wide::{Wide, WideIndexed};
+use answers::Refusal;
+use wide::Wide;
 use wide_bits::Halves;
 use words::Family;
 
 // The index of the word of k symbols below n that has the rank r: refused as the count is; 3 if r is not below the count.
-pub fn unrank_over(family: Family, n: u64, k: u64, r: u64) -> WideIndexed
-    ensures { wide_indexed_says result ≡ wide_unrank_over_says family n k r }
+pub fn unrank_over(family: Family, n: u64, k: u64, r: u64) -> Result<Wide, Refusal>
+    ensures { answer_says result ≡ wide_unrank_over_says family n k r }
 {
-    let a = wide_count::count(family, n, k);
-    let Answer::Is(c) = a else {
-        let Answer::Refused(e) = a else {
-            return WideIndexed::Refused(Refusal::TooWide);
-        };
-        return WideIndexed::Refused(e);
-    };
+    let c = wide_count::count(family, n, k)?;
     if c <= r {
-        return WideIndexed::Refused(Refusal::NoSuchRank);
+        return Err(Refusal::NoSuchRank);
     }
     let alphabet = wide_count::shifted_alphabet(family, n, k);
     let set = wide_unranking::word(alphabet, k, r);
     let low = set.low;
     let high = set.high;
-    WideIndexed::At(Wide { family, low, high })
+    Ok(Wide { family, low, high })
 }
 
 // Writes the word of a set: its numbers, lowest first, with the shift taken off.
@@ -41,33 +34,25 @@ fn spell(family: Family, set: Halves, out: &mut [u64])
     ensures { out.new ≡ word_in family (whole set) ++ drop (length (word_in family (whole set))) out.old }
 {
     let mut left = set;
-    let mut i: u64 = 0;
-    while !wide_bits::is_empty(left) {
+    for i in 0..wide_bits::count_ones(set) {
         out[i as usize] = wide_bits::lowest(left) - words::shift(family, i);
         left = wide_bits::without_lowest(left);
-        i += 1;
     }
 }
 
 // The same word, written into a lent output: 8, last, if that is too short. The answer is how many places are written.
-pub fn unrank(family: Family, n: u64, k: u64, r: u64, out: &mut [u64]) -> Answer
+pub fn unrank(family: Family, n: u64, k: u64, r: u64, out: &mut [u64]) -> Result<u64, Refusal>
     ensures says { answer_says result ≡ places_of (wide_unrank_says family n k r (length out.old)) }
     ensures holds { out.new ≡ after (wide_unrank_says family n k r (length out.old)) out.old }
 {
-    let a = unrank_over(family, n, k, r);
-    let WideIndexed::At(x) = a else {
-        let WideIndexed::Refused(e) = a else {
-            return Answer::Refused(Refusal::TooWide);
-        };
-        return Answer::Refused(e);
-    };
+    let x = unrank_over(family, n, k, r)?;
     if (out.len() as u64) < k {
-        return Answer::Refused(Refusal::Shape);
+        return Err(Refusal::Shape);
     }
     let low = x.low;
     let high = x.high;
     spell(family, Halves { low, high }, out);
-    Answer::Is(k)
+    Ok(k)
 }
 
 // The alphabet whose shifted alphabet is 128: 128 for Forbidden or degree 0, otherwise 129 - k.
@@ -82,11 +67,11 @@ fn widest(family: Family, k: u64) -> u64
 }
 
 // Unranking that names no alphabet: over the widest. 1 if k is above 128; 9 if there are 2^64 words or more, which is for k from 16 to 112; 3.
-pub fn unrank_any(family: Family, k: u64, r: u64) -> WideIndexed
-    ensures { wide_indexed_says result ≡ wide_unrank_any_says family k r }
+pub fn unrank_any(family: Family, k: u64, r: u64) -> Result<Wide, Refusal>
+    ensures { answer_says result ≡ wide_unrank_any_says family k r }
 {
     if 128 < k {
-        return WideIndexed::Refused(Refusal::TooWide);
+        return Err(Refusal::TooWide);
     }
     let n = widest(family, k);
     unrank_over(family, n, k, r)

@@ -8,7 +8,7 @@
 use mathlib.Core.Path.{◌≡◌, refl, sym, ap, ap₂, subst, ◌∙◌}
 use mathlib.Core.List.{List, [], ◌∷◌, ◌++◌}
 use Prim.Native.Nat.{ℕ, zero, suc, ◌+◌, ◌-◌, ◌*◌, ◌%◌, ◌^◌, ◌≤◌, ◌<◌}
-use native.Mathlib.Nat.{le_refl, lt_of_lt_of_le, one-mul, add-zero, zero-mul, lt_of_mul-lt-mul_right}
+use native.Mathlib.Nat.{le_refl, lt_of_lt_of_le, one-mul, lt_of_mul-lt-mul_right}
 use native.Mathlib.Omega.{arith}
 use lib.Pow.{pow_pos, pow-add, shl_exact}
 use Rattle.words.specs.declared.Family.{Family}
@@ -17,7 +17,7 @@ use Rattle.pascal.specs.Choose.{choose}
 use Rattle.pascal.specs.Row.{entry}
 use Rattle.words.specs.Unrank.{fill, unrank_of}
 use Rattle.words.specs.Bits.{bits_of, ones_from, set_bits}
-use Rattle.pascal.proofs.Choose.{choose_none, choose-few, pascal, choose_grows}
+use Rattle.pascal.proofs.Choose.{choose_none, pascal, choose_grows}
 use Rattle.pascal.proofs.Row.{entry_is_choose}
 use Rattle.words.proofs.Unrank.{unrank_monotone}
 use Rattle.words.proofs.Bits.{bits_of_set, set_of_bits}

@@ -16,12 +16,10 @@ fn descended(n: u64, k: u64, r: u64) -> Halves
     requires { (n ≤ 128) × (r < choose n k) × (choose n k < 2 ^ 64) }
     ensures { whole result ≡ bits_of (unrank_of Forbidden k r) }
 {
-    let mut s = n;
     let mut i = k;
     let mut left = r;
     let mut high: u64 = 0;
-    while 64 < s {
-        s -= 1;
+    for s in (64..n).rev() {
         let c = wide_table::at(s, i);
         if c <= left {
             left -= c;

@@ -1,8 +1,8 @@
 use mathlib.Core.Path.{refl}
 use Rattle.boundary.proofs.stepped.Goals as goal
 
-pub returns-in-Step : goal.returns-in-Step
-returns-in-Step c = simp (c.in-Step.is, c.is_standing.ensures, c.alphabet_there.ensures, c.bits_there.ensures, c.answer.ensures) record { back = refl; standing = refl; over = refl; at = refl; remaining = refl; alphabet = refl; bits = refl }
+pub returns-in-Ok : goal.returns-in-Ok
+returns-in-Ok c = simp (c.in-Ok.is, c.is_standing.ensures, c.alphabet_there.ensures, c.bits_there.ensures, c.answer.ensures) record { back = refl; standing = refl; over = refl; at = refl; remaining = refl; alphabet = refl; bits = refl }
 
-pub returns-in-Refused : goal.returns-in-Refused
-returns-in-Refused c = simp (c.in-Refused.is, c.refused.ensures) record { back = refl; standing = refl; over = refl; at = refl; remaining = refl; alphabet = refl; bits = refl }
+pub returns-in-Err : goal.returns-in-Err
+returns-in-Err c = simp (c.in-Err.is, c.refused.ensures) record { back = refl; standing = refl; over = refl; at = refl; remaining = refl; alphabet = refl; bits = refl }

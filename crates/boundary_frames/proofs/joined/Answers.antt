@@ -2,8 +2,8 @@
 use mathlib.Core.Path.{refl}
 use Rattle.boundary_frames.proofs.joined.Goals as goal
 
-pub returns-in-One : goal.returns-in-One
-returns-in-One c = simp (c.in-One.is, c.answer.ensures) record { back = refl; frame = refl; pressure = refl; temperature = refl }
+pub returns-in-Ok : goal.returns-in-Ok
+returns-in-Ok c = simp (c.in-Ok.is, c.answer.ensures) record { back = refl; frame = refl; pressure = refl; temperature = refl }
 
-pub returns-in-Refused : goal.returns-in-Refused
-returns-in-Refused c = simp (c.in-Refused.is, c.refused.ensures) record { back = refl; frame = refl; pressure = refl; temperature = refl }
+pub returns-in-Err : goal.returns-in-Err
+returns-in-Err c = simp (c.in-Err.is, c.refused.ensures) record { back = refl; frame = refl; pressure = refl; temperature = refl }

@@ -2,8 +2,8 @@
 use mathlib.Core.Path.{refl}
 use Rattle.boundary_wide.proofs.signed.Goals as goal
 
-pub returns-in-At : goal.returns-in-At
-returns-in-At c = simp (c.in-At.is, c.is_minus.ensures, c.answer.ensures) record { back = refl; sign = refl; low = refl; high = refl }
+pub returns-in-Ok : goal.returns-in-Ok
+returns-in-Ok c = simp (c.in-Ok.is, c.is_minus.ensures, c.answer.ensures) record { back = refl; sign = refl; low = refl; high = refl }
 
-pub returns-in-Refused : goal.returns-in-Refused
-returns-in-Refused c = simp (c.in-Refused.is, c.refused.ensures) record { back = refl; sign = refl; low = refl; high = refl }
+pub returns-in-Err : goal.returns-in-Err
+returns-in-Err c = simp (c.in-Err.is, c.refused.ensures) record { back = refl; sign = refl; low = refl; high = refl }

@@ -1,7 +1,8 @@
 -- `cartesian::linearize` meets its contract. Assumes nothing.
 use mathlib.Core.Path.{sym, ap, ◌∙◌}
-use borrow.Author.Tests.{lt-ltb, le-ltb, eq-eqb, ne_eqb, not-true, not-false}
+use borrow.Author.Tests.{lt-ltb, le-ltb, eq-eqb, ne_eqb}
 use Rattle.answers.specs.Says.{answer_says}
+use Rattle.answers.proofs.Says.{passed_on}
 use Rattle.positional.specs.Positional.{product}
 use Rattle.cartesian.proofs.Fits.{fits_given}
 use Rattle.cartesian.proofs.Tuples.{within_is_digits}
@@ -16,14 +17,16 @@ returns-then-digits-radices c = simp (le-ltb _ _ c.if-radices-gt16.false, ne_eqb
 pub returns-then-not-within : goal.returns-then-not-within
 returns-then-not-within c = simp (le-ltb _ _ c.if-radices-gt16.false, eq-eqb _ _ c.if-digits-radices.false, sym c.within.ensures ∙ c.if-not-within.true)
 
-pub returns-in_default : goal.returns-in_default
-returns-in_default c = simp (le-ltb _ _ c.if-radices-gt16.false, eq-eqb _ _ c.if-digits-radices.false, sym c.within.ensures ∙ c.if-not-within.false, sym c.size-a.ensures, c.in_default.is)
+pub returns-in_err-size : goal.returns-in_err-size
+returns-in_err-size c =
+    passed_on c.from_residual.result _ c.from_residual.ensures.1
+    ∙ sym (simp (le-ltb _ _ c.if-radices-gt16.false, eq-eqb _ _ c.if-digits-radices.false, sym c.within.ensures ∙ c.if-not-within.false, sym c.size.ensures, c.in_err-size.was))
 
 pub number-requires : goal.number-requires
 number-requires c = (
   (within_is_digits c.args.radices.now c.args.digits.now c.if-digits-radices.false).0 (sym c.within.ensures ∙ c.if-not-within.false),
-  (fits_given (product c.args.radices.now) _ (sym c.size-a.ensures ∙ ap answer_says c.in-Is.is)).0,
+  (fits_given (product c.args.radices.now) _ (sym c.size.ensures ∙ ap answer_says c.in_ok-size.was)).0,
 )
 
 pub returns : goal.returns
-returns c = simp (le-ltb _ _ c.if-radices-gt16.false, eq-eqb _ _ c.if-digits-radices.false, sym c.within.ensures ∙ c.if-not-within.false, sym c.size-a.ensures, c.in-Is.is, c.number.ensures)
+returns c = simp (le-ltb _ _ c.if-radices-gt16.false, eq-eqb _ _ c.if-digits-radices.false, sym c.within.ensures ∙ c.if-not-within.false, sym c.size.ensures, c.in_ok-size.was, c.number.ensures)

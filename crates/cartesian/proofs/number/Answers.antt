@@ -9,15 +9,6 @@ use Rattle.cartesian.proofs.number.Goals as goal
 pub loop-i-init : goal.loop-i-init
 loop-i-init c = above_starts c.args.radices.now c.args.digits.now
 
-pub overflow_sub-i : goal.overflow_sub-i
-overflow_sub-i c = omega arith
-
-pub offset_bounds-radices-i : goal.offset_bounds-radices-i
-offset_bounds-radices-i c = omega (arith, c.loop-i.invariant.axes)
-
-pub bounds-radices-i : goal.bounds-radices-i
-bounds-radices-i c = omega (arith, c.loop-i.invariant.axes)
-
 pub overflow_mul-above : goal.overflow_mul-above
 overflow_mul-above c =
     omega (
@@ -25,9 +16,6 @@ overflow_mul-above c =
       above_fits c.args.radices.now c.args.digits.now (c.loop-i.above * get_or c.args.radices.now (c.loop-i.i - 1) 0 + get_or c.args.digits.now (c.loop-i.i - 1) 0) (c.loop-i.i - 1) c.requires.0 (above_turn c.args.radices.now c.args.digits.now c.loop-i.above c.loop-i.i c.requires.0 c.loop-i.invariant (omega arith)),
       number_below c.args.radices.now c.args.digits.now c.requires.0,
     )
-
-pub offset_bounds-digits-i : goal.offset_bounds-digits-i
-offset_bounds-digits-i c = omega (arith, c.loop-i.invariant.axes, digits_long c.args.radices.now c.args.digits.now c.requires.0)
 
 pub bounds-digits-i : goal.bounds-digits-i
 bounds-digits-i c = omega (arith, c.loop-i.invariant.axes, digits_long c.args.radices.now c.args.digits.now c.requires.0)
@@ -39,9 +27,6 @@ overflow_add-above c =
       above_fits c.args.radices.now c.args.digits.now (c.loop-i.above * get_or c.args.radices.now (c.loop-i.i - 1) 0 + get_or c.args.digits.now (c.loop-i.i - 1) 0) (c.loop-i.i - 1) c.requires.0 (above_turn c.args.radices.now c.args.digits.now c.loop-i.above c.loop-i.i c.requires.0 c.loop-i.invariant (omega arith)),
       number_below c.args.radices.now c.args.digits.now c.requires.0,
     )
-
-pub loop-i-smaller : goal.loop-i-smaller
-loop-i-smaller c = omega arith
 
 pub loop-i-preserved : goal.loop-i-preserved
 loop-i-preserved c =

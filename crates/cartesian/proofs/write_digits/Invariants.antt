@@ -1,11 +1,6 @@
 -- `cartesian::write_digits` meets its contract, by the laws of `Spelling`. Assumes nothing.
-use Prim.Native.Nat.{◌-◌}
-use lib.ListN.{length}
 use Rattle.cartesian.proofs.Writing.{Spelling}
 use Rattle.cartesian.proofs.write_digits.Given as goal
 
 abbrev pub invariant-loop-i : goal.invariant-loop-i
 invariant-loop-i l = Spelling l.radices l.x l.initial.out l.out l.left l.i
-
-abbrev pub decreases-loop-i : goal.decreases-loop-i
-decreases-loop-i l = length l.radices - l.i

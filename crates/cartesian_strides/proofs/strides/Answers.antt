@@ -24,12 +24,6 @@ returns-then-out-n c =
     ap (too_big c.args.radices.now) (sym c.one_less.ensures) ∙ sym c.too_big.ensures ∙ c.if-too_big.false in
     simp (le-ltb _ _ c.if-n-gt16.false, small, lt-ltb _ _ c.if-out-n.true) record { says = refl; holds = refl }
 
-pub write_strides-requires : goal.write_strides-requires
-write_strides-requires c = (
-  ap (too_big c.args.radices.now) (sym c.one_less.ensures) ∙ sym c.too_big.ensures ∙ c.if-too_big.false,
-  c.if-out-n.false,
-)
-
 pub returns : goal.returns
 returns c =
     let small : too_big c.args.radices.now (length c.args.radices.now - 1) ≡ false =

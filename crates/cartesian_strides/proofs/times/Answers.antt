@@ -5,6 +5,7 @@ use native.Mathlib.Nat.{mul-zero, le-mul_of_pos_right}
 use native.Mathlib.Omega.{arith}
 use borrow.Author.Tests.{leb-true, leb-false}
 use Rattle.answers.specs.Says.{answer_says}
+use Rattle.answers.proofs.Says.{passed_on}
 use Rattle.cartesian.specs.Checks.{number_says}
 use Rattle.cartesian.proofs.Fits.{fits_small, fits_big, fits_given, stays-big}
 use Rattle.cartesian_strides.proofs.times.Goals as goal
@@ -12,18 +13,17 @@ use Rattle.cartesian_strides.proofs.times.Goals as goal
 pub returns-then-r-eq0 : goal.returns-then-r-eq0
 returns-then-r-eq0 c = λ n p. sym (ap (λ (r : ℕ). number_says (n * r)) c.if-r-eq0.true ∙ ap number_says (mul-zero n))
 
-pub returns-in_default : goal.returns-in_default
-returns-in_default c = λ n p. p ∙ stays-big n (n * c.args.r) _ _ (sym (ap answer_says c.in_default.is) ∙ p) (le-mul_of_pos_right n (omega arith))
+pub returns-in_err-x : goal.returns-in_err-x
+returns-in_err-x c = λ n p.
+    let r = sym (ap answer_says c.in_err-x.was) ∙ p in
+    passed_on c.from_residual.result _ c.from_residual.ensures.1 ∙ r ∙ stays-big n (n * c.args.r) _ _ r (le-mul_of_pos_right n (omega arith))
 
 pub returns-then-exceeds : goal.returns-then-exceeds
 returns-then-exceeds c = λ n p.
-    let e = (fits_given n _ (sym p ∙ ap answer_says c.in-Is.is)).1 in
-    sym (ap (λ (x : ℕ). number_says (x * c.args.r)) (sym e) ∙ fits_big (c.in-Is.x * c.args.r) (leb-true (2 ^ 64) (c.in-Is.x * c.args.r) (sym c.exceeds.ensures ∙ c.if-exceeds.true)))
-
-pub overflow_mul-result : goal.overflow_mul-result
-overflow_mul-result c = omega (arith, leb-false (2 ^ 64) (c.in-Is.x * c.args.r) (sym c.exceeds.ensures ∙ c.if-exceeds.false))
+    let e = (fits_given n _ (sym p ∙ ap answer_says c.in_ok-x.was)).1 in
+    sym (ap (λ (x : ℕ). number_says (x * c.args.r)) (sym e) ∙ fits_big (c.in_ok-x.x * c.args.r) (leb-true (2 ^ 64) (c.in_ok-x.x * c.args.r) (sym c.exceeds.ensures ∙ c.if-exceeds.true)))
 
 pub returns : goal.returns
 returns c = λ n p.
-    let e = (fits_given n _ (sym p ∙ ap answer_says c.in-Is.is)).1 in
-    sym (ap (λ (x : ℕ). number_says (x * c.args.r)) (sym e) ∙ fits_small (c.in-Is.x * c.args.r) (leb-false (2 ^ 64) (c.in-Is.x * c.args.r) (sym c.exceeds.ensures ∙ c.if-exceeds.false)))
+    let e = (fits_given n _ (sym p ∙ ap answer_says c.in_ok-x.was)).1 in
+    sym (ap (λ (x : ℕ). number_says (x * c.args.r)) (sym e) ∙ fits_small (c.in_ok-x.x * c.args.r) (leb-false (2 ^ 64) (c.in_ok-x.x * c.args.r) (sym c.exceeds.ensures ∙ c.if-exceeds.false)))

@@ -2,14 +2,16 @@
 use mathlib.Core.Path.{◌∙◌}
 use Rattle.answers.specs.Terms.{word_of}
 use Rattle.deletion.specs.Rules.{complement_in}
+use Rattle.answers.proofs.Says.{passed_on}
 use Rattle.taking.proofs.Accepted.{took}
 use Rattle.deletion.proofs.complement.Goals as goal
 
-pub returns-in-Refused : goal.returns-in-Refused
-returns-in-Refused c =
-    took c.args.x (complement_in c.args.x.family (word_of c.args.x) c.args.n) c.take.result _ c.take.ensures c.in-Refused.is
+pub returns-in_err-take : goal.returns-in_err-take
+returns-in_err-take c =
+    passed_on c.from_residual.result _ c.from_residual.ensures.1
+    ∙ took c.args.x (complement_in c.args.x.family (word_of c.args.x) c.args.n) c.take.result _ c.take.ensures c.in_err-take.was
 
 pub returns : goal.returns
 returns c =
     c.opposite.ensures
-    ∙ took c.args.x (complement_in c.args.x.family (word_of c.args.x) c.args.n) c.take.result _ c.take.ensures c.in_default.is
+    ∙ took c.args.x (complement_in c.args.x.family (word_of c.args.x) c.args.n) c.take.result _ c.take.ensures c.in_ok-take.was

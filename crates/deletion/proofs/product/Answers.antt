@@ -1,7 +1,5 @@
 -- `deletion::product` meets its contract, by the laws of `Multiplying`. Assumes nothing.
 use mathlib.Core.Path.{sym}
-use mathlib.Core.Logic.{⊎_map}
-use Prim.Native.Nat.{◌-◌}
 use native.Mathlib.Omega.{arith}
 use borrow.Author.Rules.{rules}
 use borrow.Author.Tests.{le-leb, lt-leb}
@@ -10,42 +8,36 @@ use Rattle.deletion.proofs.product.Goals as goal
 use Rattle.std.proofs.Common.{inl, inr}
 use Rattle.deletion.proofs.product.Goals.{then-symbol-previous, else-symbol-previous}
 
-pub loop-left-init : goal.loop-left-init
-loop-left-init c = multiplied_starts c.args.x.family c.args.x.bits
+pub loop-i-init : goal.loop-i-init
+loop-i-init c = multiplied_starts c.args.x.family c.args.x.bits
 
 pub overflow_sub-symbol : goal.overflow_sub-symbol
-overflow_sub-symbol c = (place c.loop-left.invariant (omega arith) c.lowest.ensures c.shift.ensures).taken
+overflow_sub-symbol c = (place c.loop-i.invariant (omega (arith, c.count_ones-i-end.ensures)) c.lowest.ensures c.shift.ensures).taken
 
 pub overflow_add-run : goal.overflow_add-run
-overflow_add-run c = omega (arith, few c.loop-left.invariant (omega arith) c.lowest.ensures c.shift.ensures 64 (search rules), c.loop-left.invariant.running.short)
+overflow_add-run c = omega (arith, few c.loop-i.invariant (omega (arith, c.count_ones-i-end.ensures)) c.lowest.ensures c.shift.ensures 64 (search rules), c.loop-i.invariant.running.short)
 
 pub nonzero_div-run : goal.nonzero_div-run
-nonzero_div-run c = let o = occurs-here c.loop-left.invariant (omega arith) c.lowest.ensures c.shift.ensures (elim c.if-symbol-previous.branch [ then-symbol-previous w ↦ inl (w.if-symbol-previous.true, w.run-is) | else-symbol-previous w ↦ inr (w.if-symbol-previous.false, w.run-is) ]) in omega (arith, o.times)
+nonzero_div-run c = let o = occurs-here c.loop-i.invariant (omega (arith, c.count_ones-i-end.ensures)) c.lowest.ensures c.shift.ensures (elim c.if-symbol-previous.branch [ then-symbol-previous w ↦ inl (w.if-symbol-previous.true, w.run-is) | else-symbol-previous w ↦ inr (w.if-symbol-previous.false, w.run-is) ]) in omega (arith, o.times)
 
 pub returns-then-run-product : goal.returns-then-run-product
 returns-then-run-product c =
-    let o = occurs-here c.loop-left.invariant (omega arith) c.lowest.ensures c.shift.ensures (elim c.if-symbol-previous.branch [ then-symbol-previous w ↦ inl (w.if-symbol-previous.true, w.run-is) | else-symbol-previous w ↦ inr (w.if-symbol-previous.false, w.run-is) ]) in
-    let h = multiplied-past c.loop-left.invariant o (omega (arith, too_big_lem 18446744073709551615 c.if-symbol-previous.run c.loop-left.product (omega (arith, o.times)) c.if-run-product.true)) in
+    let o = occurs-here c.loop-i.invariant (omega (arith, c.count_ones-i-end.ensures)) c.lowest.ensures c.shift.ensures (elim c.if-symbol-previous.branch [ then-symbol-previous w ↦ inl (w.if-symbol-previous.true, w.run-is) | else-symbol-previous w ↦ inr (w.if-symbol-previous.false, w.run-is) ]) in
+    let h = multiplied-past c.loop-i.invariant o (omega (arith, too_big_lem 18446744073709551615 c.if-symbol-previous.run c.loop-i.product (omega (arith, o.times)) c.if-run-product.true)) in
     simp (le-leb _ _ h)
 
 pub overflow_mul-product : goal.overflow_mul-product
 overflow_mul-product c =
-    let o = occurs-here c.loop-left.invariant (omega arith) c.lowest.ensures c.shift.ensures (elim c.if-symbol-previous.branch [ then-symbol-previous w ↦ inl (w.if-symbol-previous.true, w.run-is) | else-symbol-previous w ↦ inr (w.if-symbol-previous.false, w.run-is) ]) in
-    omega (arith, small-enough 18446744073709551615 c.if-symbol-previous.run c.loop-left.product (omega (arith, o.times)) c.if-run-product.false)
+    let o = occurs-here c.loop-i.invariant (omega (arith, c.count_ones-i-end.ensures)) c.lowest.ensures c.shift.ensures (elim c.if-symbol-previous.branch [ then-symbol-previous w ↦ inl (w.if-symbol-previous.true, w.run-is) | else-symbol-previous w ↦ inr (w.if-symbol-previous.false, w.run-is) ]) in
+    omega (arith, small-enough 18446744073709551615 c.if-symbol-previous.run c.loop-i.product (omega (arith, o.times)) c.if-run-product.false)
 
-pub overflow_add-i : goal.overflow_add-i
-overflow_add-i c = omega (arith, few c.loop-left.invariant (omega arith) c.lowest.ensures c.shift.ensures 64 (search rules))
-
-pub loop-left-smaller : goal.loop-left-smaller
-loop-left-smaller c = omega (arith, (place c.loop-left.invariant (omega arith) c.lowest.ensures c.shift.ensures).within)
-
-pub loop-left-preserved : goal.loop-left-preserved
-loop-left-preserved c =
-    let o = occurs-here c.loop-left.invariant (omega arith) c.lowest.ensures c.shift.ensures (elim c.if-symbol-previous.branch [ then-symbol-previous w ↦ inl (w.if-symbol-previous.true, w.run-is) | else-symbol-previous w ↦ inr (w.if-symbol-previous.false, w.run-is) ]) in
-    multiplied-turn c.loop-left.invariant (omega arith) c.lowest.ensures c.shift.ensures c.without_lowest-left.result o c.without_lowest-left.ensures
-    (omega (arith, small-enough 18446744073709551615 c.if-symbol-previous.run c.loop-left.product (omega (arith, o.times)) c.if-run-product.false))
+pub loop-i-preserved : goal.loop-i-preserved
+loop-i-preserved c =
+    let o = occurs-here c.loop-i.invariant (omega (arith, c.count_ones-i-end.ensures)) c.lowest.ensures c.shift.ensures (elim c.if-symbol-previous.branch [ then-symbol-previous w ↦ inl (w.if-symbol-previous.true, w.run-is) | else-symbol-previous w ↦ inr (w.if-symbol-previous.false, w.run-is) ]) in
+    multiplied-turn c.loop-i.invariant (omega (arith, c.count_ones-i-end.ensures)) c.lowest.ensures c.shift.ensures c.without_lowest-left.result o c.without_lowest-left.ensures
+    (omega (arith, small-enough 18446744073709551615 c.if-symbol-previous.run c.loop-i.product (omega (arith, o.times)) c.if-run-product.false))
 
 pub returns : goal.returns
 returns c =
-    let e = multiplied_ends c.loop-left.invariant (omega arith) in
-    simp (sym e, lt-leb _ _ c.loop-left.invariant.fits)
+    let e = multiplied_ends c.loop-i.invariant (omega (arith, c.count_ones-i-end.ensures)) in
+    simp (sym e, lt-leb _ _ c.loop-i.invariant.fits)

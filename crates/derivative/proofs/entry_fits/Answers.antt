@@ -1,11 +1,5 @@
 -- `derivative::entry_fits` meets its contract. Assumes nothing.
-use mathlib.Core.Path.{ap, ◌∙◌}
 use native.Mathlib.Omega.{arith}
-use lib.ListN.{get_or}
-use lib.IntN.{pos, ◌*ℤ◌}
-use mir.Syntax.{w64}
-use mir.ValLaws.{to_z-of_z}
-use Rattle.products.specs.Range.{inside}
 use Rattle.derivative.proofs.entry_fits.Goals as goal
 
 pub offset_bounds-table-q : goal.offset_bounds-table-q

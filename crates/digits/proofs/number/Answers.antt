@@ -8,28 +8,16 @@ use Rattle.digits.proofs.number.Goals as goal
 
 pub loop-i-init : goal.loop-i-init
 loop-i-init c =
-    (omega arith, subst (Above (replicate (length c.args.symbols.now) c.args.radix) c.args.symbols.now 0) (length-replicate (length c.args.symbols.now) c.args.radix) (above_starts (replicate (length c.args.symbols.now) c.args.radix) c.args.symbols.now))
-
-pub overflow_sub-i : goal.overflow_sub-i
-overflow_sub-i c = omega arith
+    subst (Above (replicate (length c.args.symbols.now) c.args.radix) c.args.symbols.now 0) (length-replicate (length c.args.symbols.now) c.args.radix) (above_starts (replicate (length c.args.symbols.now) c.args.radix) c.args.symbols.now)
 
 pub overflow_mul-above : goal.overflow_mul-above
-overflow_mul-above c = omega (arith, rising-fits c.args.radix c.args.symbols.now c.loop-i.above c.loop-i.i c.requires.0 c.loop-i.invariant.1 (omega arith))
-
-pub offset_bounds-symbols-i : goal.offset_bounds-symbols-i
-offset_bounds-symbols-i c = omega arith
-
-pub bounds-symbols-i : goal.bounds-symbols-i
-bounds-symbols-i c = omega arith
+overflow_mul-above c = omega (arith, rising-fits c.args.radix c.args.symbols.now c.loop-i.above c.loop-i.i c.requires.0 c.loop-i.invariant (omega arith))
 
 pub overflow_add-above : goal.overflow_add-above
-overflow_add-above c = omega (arith, rising-fits c.args.radix c.args.symbols.now c.loop-i.above c.loop-i.i c.requires.0 c.loop-i.invariant.1 (omega arith))
-
-pub loop-i-smaller : goal.loop-i-smaller
-loop-i-smaller c = omega arith
+overflow_add-above c = omega (arith, rising-fits c.args.radix c.args.symbols.now c.loop-i.above c.loop-i.i c.requires.0 c.loop-i.invariant (omega arith))
 
 pub loop-i-preserved : goal.loop-i-preserved
-loop-i-preserved c = (omega arith, rising-turn c.args.radix c.args.symbols.now c.loop-i.above c.loop-i.i c.requires.0 c.loop-i.invariant.1 (omega arith))
+loop-i-preserved c = rising-turn c.args.radix c.args.symbols.now c.loop-i.above c.loop-i.i c.requires.0 c.loop-i.invariant (omega arith)
 
 pub returns : goal.returns
-returns c = above_ends (replicate (length c.args.symbols.now) c.args.radix) c.args.symbols.now c.loop-i.above c.loop-i.i c.loop-i.invariant.1 (omega arith)
+returns c = above_ends (replicate (length c.args.symbols.now) c.args.radix) c.args.symbols.now c.loop-i.above c.loop-i.i c.loop-i.invariant (omega arith)

@@ -1,29 +1,15 @@
 -- `digits::power` meets its contract. The invariant: what is made, and what is left of the power. The measure is how many factors are left. Assumes nothing.
 use mathlib.Core.Path.{◌≡◌, sym, ◌∙◌}
 use Prim.Native.Nat.{ℕ, ◌<◌, ◌*◌, ◌^◌}
-use native.Mathlib.Omega.{arith}
-use borrow.Author.Rules.{rules}
 use borrow.Author.Tests.{leb-false, lt-leb}
-use Rattle.digits.proofs.Powers.{squared_begins, squared_turn, squared_ends, odd_too_big, square_too_big}
+use Rattle.digits.proofs.Powers.{squared_turn, squared_ends, odd_too_big, square_too_big}
 use Rattle.digits.proofs.power.Goals as goal
-
-pub loop-left-init : goal.loop-left-init
-loop-left-init c = squared_begins c.args.radix c.args.degree (search rules)
 
 pub returns-then-exceeds : goal.returns-then-exceeds
 returns-then-exceeds c = odd_too_big c.loop-left.product c.loop-left.base c.loop-left.left (c.args.radix ^ c.args.degree) _ c.loop-left.invariant c.odd_factor-odd.ensures (sym c.exceeds.ensures ∙ c.if-exceeds.true)
 
 pub returns-then-exceeds-2 : goal.returns-then-exceeds-2
 returns-then-exceeds-2 c = square_too_big c.loop-left.product c.loop-left.base c.loop-left.left (c.args.radix ^ c.args.degree) _ c.loop-left.invariant c.odd_factor-odd.ensures c.loop-left-test.true (sym c.exceeds-in-loop-left.ensures ∙ c.if-exceeds-2.true)
-
-pub overflow_mul-product : goal.overflow_mul-product
-overflow_mul-product c = omega (arith, leb-false (2 ^ 64) (c.loop-left.product * c.odd_factor-odd.result) (sym c.exceeds.ensures ∙ c.if-exceeds.false))
-
-pub overflow_mul-base : goal.overflow_mul-base
-overflow_mul-base c = omega (arith, leb-false (2 ^ 64) (c.loop-left.base * c.loop-left.base) (sym c.exceeds-in-loop-left.ensures ∙ c.if-exceeds-2.false))
-
-pub loop-left-smaller : goal.loop-left-smaller
-loop-left-smaller c = omega arith
 
 pub loop-left-preserved : goal.loop-left-preserved
 loop-left-preserved c =
@@ -33,9 +19,6 @@ loop-left-preserved c =
 
 pub returns-then-exceeds-3 : goal.returns-then-exceeds-3
 returns-then-exceeds-3 c = odd_too_big c.loop-left.product c.loop-left.base c.loop-left.left (c.args.radix ^ c.args.degree) _ c.loop-left.invariant c.odd_factor-odd-2.ensures (sym c.exceeds-2.ensures ∙ c.if-exceeds-3.true)
-
-pub overflow_mul-result : goal.overflow_mul-result
-overflow_mul-result c = omega (arith, leb-false (2 ^ 64) (c.loop-left.product * c.odd_factor-odd-2.result) (sym c.exceeds-2.ensures ∙ c.if-exceeds-3.false))
 
 pub returns : goal.returns
 returns c =

@@ -1,47 +1,24 @@
 -- `digits_algebra::stabilizer_of` meets its contract, by the laws of `Counting`. Assumes nothing.
 use mathlib.Core.Path.{sym, ◌∙◌}
-use Prim.Native.Nat.{◌-◌, ◌*◌, ◌^◌}
+use Prim.Native.Nat.{◌^◌}
 use native.Mathlib.Omega.{arith}
 use borrow.Author.Tests.{leb-true, leb-false, le-leb, lt-leb}
 use Rattle.digits_algebra.proofs.Counting.{multiplied_starts, multiplied-turn, multiplied-past, multiplied_ends}
 use Rattle.digits_algebra.proofs.stabilizer_of.Goals as goal
 
 pub loop-i-init : goal.loop-i-init
-loop-i-init c = (omega arith, multiplied_starts c.args.word.now c.args.upto)
-
-pub overflow_add-i : goal.overflow_add-i
-overflow_add-i c = omega arith
-
-pub offset_bounds-word-i : goal.offset_bounds-word-i
-offset_bounds-word-i c = omega arith
-
-pub bounds-word-i : goal.bounds-word-i
-bounds-word-i c = omega arith
-
-pub occurrences-times-requires : goal.occurrences-times-requires
-occurrences-times-requires c = omega arith
+loop-i-init c = multiplied_starts c.args.word.now c.args.upto
 
 pub returns-then-exceeds : goal.returns-then-exceeds
 returns-then-exceeds c =
-    simp (le-leb _ _ (multiplied-past c.args.word.now c.args.upto c.loop-i.product c.loop-i.i c.occurrences-times.result c.requires (omega arith) c.loop-i.invariant.1 c.occurrences-times.ensures (leb-true (2 ^ 64) _ (sym c.exceeds.ensures ∙ c.if-exceeds.true))))
-
-pub overflow_mul-product : goal.overflow_mul-product
-overflow_mul-product c = omega (arith, leb-false (2 ^ 64) (c.loop-i.product * c.occurrences-times.result) (sym c.exceeds.ensures ∙ c.if-exceeds.false))
-
-pub overflow_add-i-in-loop-i : goal.overflow_add-i-in-loop-i
-overflow_add-i-in-loop-i c = omega arith
-
-pub loop-i-smaller : goal.loop-i-smaller
-loop-i-smaller c = omega arith
+    simp (le-leb _ _ (multiplied-past c.args.word.now c.args.upto c.loop-i.product c.loop-i.i c.occurrences-times.result c.requires (omega arith) c.loop-i.invariant c.occurrences-times.ensures (leb-true (2 ^ 64) _ (sym c.exceeds.ensures ∙ c.if-exceeds.true))))
 
 pub loop-i-preserved : goal.loop-i-preserved
-loop-i-preserved c = (
-  omega arith,
-  multiplied-turn c.args.word.now c.args.upto c.loop-i.product c.loop-i.i c.occurrences-times.result c.requires (omega arith) c.loop-i.invariant.1 c.occurrences-times.ensures
-      (leb-false (2 ^ 64) _ (sym c.exceeds.ensures ∙ c.if-exceeds.false)),
-)
+loop-i-preserved c =
+    multiplied-turn c.args.word.now c.args.upto c.loop-i.product c.loop-i.i c.occurrences-times.result c.requires (omega arith) c.loop-i.invariant c.occurrences-times.ensures
+    (leb-false (2 ^ 64) _ (sym c.exceeds.ensures ∙ c.if-exceeds.false))
 
 pub returns : goal.returns
 returns c =
-    let e = multiplied_ends c.args.word.now c.args.upto c.loop-i.product c.loop-i.i c.loop-i.invariant.1 (omega arith) in
-    simp (sym e, lt-leb _ _ c.loop-i.invariant.1.small)
+    let e = multiplied_ends c.args.word.now c.args.upto c.loop-i.product c.loop-i.i c.loop-i.invariant (omega arith) in
+    simp (sym e, lt-leb _ _ c.loop-i.invariant.small)

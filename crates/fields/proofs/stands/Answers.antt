@@ -1,18 +1,12 @@
 -- `fields::stands` meets its contract: by the letter, and by what reading the text answers. Assumes nothing.
-use Rattle.fields.proofs.Letters.{number-stands, no-number-stands, family-stands, no-family-stands, bytes-stand, slash-stands, nothing-stands}
+use Rattle.fields.proofs.Letters.{number-stands, family-stands, bytes-stand, slash-stands, nothing-stands}
 use Rattle.fields.proofs.stands.Goals as goal
 
-pub returns-in_default : goal.returns-in_default
-returns-in_default c = no-number-stands _ _ _ c.if-letter-eq110.true c.in_default.is c.read_number.ensures
-
 pub returns-then-letter-eq110 : goal.returns-then-letter-eq110
-returns-then-letter-eq110 c = number-stands _ _ _ _ c.if-letter-eq110.true c.in-Is.is c.read_number.ensures
-
-pub returns-in_default-family : goal.returns-in_default-family
-returns-in_default-family c = no-family-stands _ _ _ c.if-letter-eq70.true c.in_default-family.is c.family.ensures
+returns-then-letter-eq110 c = rw c.is_some.ensures (number-stands _ _ c.read_number.result c.if-letter-eq110.true c.read_number.ensures)
 
 pub returns-then-letter-eq70 : goal.returns-then-letter-eq70
-returns-then-letter-eq70 c = family-stands _ _ _ _ c.if-letter-eq70.true c.in-Family.is c.family.ensures
+returns-then-letter-eq70 c = rw c.is_some-then-letter-eq70.ensures (family-stands _ _ c.family.result c.if-letter-eq70.true c.family.ensures)
 
 pub returns-then-letter-eq66 : goal.returns-then-letter-eq66
 returns-then-letter-eq66 c = bytes-stand _ _ _ c.if-letter-eq66.true c.is_bytes.ensures

@@ -1,15 +1,19 @@
 -- `following::run` meets its contract, by the laws of `Runs`. Assumes nothing.
 use native.Mathlib.Omega.{arith}
-use Rattle.following.proofs.Runs.{Runs, Turn, runs_start, runs_turn, runs_end}
+use Rattle.following.proofs.Runs.{Turn, runs_start, runs_turn, runs_end, some_left}
 use Rattle.following.proofs.run.Goals as goal
 use Rattle.following.proofs.run.Goals.{After-lowest}
 
-pub loop-left-init : goal.loop-left-init
-loop-left-init c = runs_start c.args.bits c.without_lowest-left.result c.lowest-top.result c.requires c.ranges.bits.fits c.without_lowest-left.ensures c.lowest-top.ensures
+pub loop-t-init : goal.loop-t-init
+loop-t-init c =
+    record {
+      runs = runs_start c.args.bits c.without_lowest-left.result c.lowest-top.result c.requires c.ranges.bits.fits c.without_lowest-left.ensures c.lowest-top.ensures;
+      rest = omega (arith, c.count_ones-k.ensures);
+    }
 
 -- what the lowest number that is left brings
-turn : (c : After-lowest) → Turn c.args.bits c.loop-left.left c.loop-left.top c.loop-left.t c.lowest.result
-turn c = runs_turn c.args.bits c.loop-left.left c.loop-left.top c.loop-left.t c.lowest.result c.loop-left.invariant c.loop-left-test.true c.lowest.ensures
+turn : (c : After-lowest) → Turn c.args.bits c.loop-t.left c.loop-t.top c.loop-t.t c.lowest.result
+turn c = runs_turn c.args.bits c.loop-t.left c.loop-t.top c.loop-t.t c.lowest.result c.loop-t.invariant.runs (some_left c.args.bits c.loop-t.left c.loop-t.top c.loop-t.t c.count_ones-k.result c.loop-t.invariant c.loop-t-test.true) c.lowest.ensures
 
 pub overflow_add-top : goal.overflow_add-top
 overflow_add-top c = omega (arith, (turn (goal.at.overflow_add-top c).After-lowest).low)
@@ -17,17 +21,16 @@ overflow_add-top c = omega (arith, (turn (goal.at.overflow_add-top c).After-lowe
 pub returns-then-lowest-top : goal.returns-then-lowest-top
 returns-then-lowest-top c = (turn (goal.at.returns-then-lowest-top c).After-lowest).stops c.if-lowest-top.true
 
-pub overflow_add-top-in-loop-left : goal.overflow_add-top-in-loop-left
-overflow_add-top-in-loop-left c = omega (arith, (turn (goal.at.overflow_add-top-in-loop-left c).After-lowest).low)
+pub overflow_add-top-in-loop-t : goal.overflow_add-top-in-loop-t
+overflow_add-top-in-loop-t c = omega (arith, (turn (goal.at.overflow_add-top-in-loop-t c).After-lowest).low)
 
-pub overflow_add-t : goal.overflow_add-t
-overflow_add-t c = omega (arith, (turn (goal.at.overflow_add-t c).After-lowest).low, c.loop-left.invariant.few)
-
-pub loop-left-smaller : goal.loop-left-smaller
-loop-left-smaller c = (turn (goal.at.loop-left-smaller c).After-lowest).less c.without_lowest-left-in-loop-left.result c.without_lowest-left-in-loop-left.ensures
-
-pub loop-left-preserved : goal.loop-left-preserved
-loop-left-preserved c = (turn (goal.at.loop-left-preserved c).After-lowest).again c.if-lowest-top.false c.without_lowest-left-in-loop-left.result c.without_lowest-left-in-loop-left.ensures
+pub loop-t-preserved : goal.loop-t-preserved
+loop-t-preserved c =
+    let o : Turn c.args.bits c.loop-t.left c.loop-t.top c.loop-t.t c.lowest.result = turn (goal.at.loop-t-preserved c).After-lowest in
+    record {
+      runs = o.again c.if-lowest-top.false c.without_lowest-left-in-loop-t.result c.without_lowest-left-in-loop-t.ensures;
+      rest = omega (arith, c.loop-t.invariant.rest, o.less c.without_lowest-left-in-loop-t.result c.without_lowest-left-in-loop-t.ensures);
+    }
 
 pub returns : goal.returns
-returns c = runs_end c.args.bits c.loop-left.left c.loop-left.top c.loop-left.t c.loop-left.invariant (omega arith)
+returns c = runs_end c.args.bits c.loop-t.left c.loop-t.top c.loop-t.t c.count_ones-k.result c.loop-t.invariant c.loop-t-test.false

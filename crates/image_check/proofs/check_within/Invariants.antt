@@ -1,10 +1,6 @@
 -- `image_check::check_within` meets its contract. Assumes nothing.
-use Prim.Native.Nat.{◌-◌}
 use Rattle.image_check.proofs.Turns.{Turn}
 use Rattle.image_check.proofs.check_within.Given as goal
 
 abbrev pub invariant-loop-i : goal.invariant-loop-i
 invariant-loop-i l = Turn l.s l.size l.t l.i l.place l.used
-
-abbrev pub decreases-loop-i : goal.decreases-loop-i
-decreases-loop-i l = l.t - l.i

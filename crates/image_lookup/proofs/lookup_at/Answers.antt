@@ -2,31 +2,18 @@
 use mathlib.Core.Path.{◌≡◌, sym, ap, ◌∙◌}
 use Prim.Native.Nat.{◌+◌, ◌*◌}
 use native.Mathlib.Omega.{arith}
-use borrow.Author.Tests.{lt-ltb, le-ltb}
+use borrow.Author.Tests.{le-ltb}
 use lib.Dec.{ltb}
 use lib.ListN.{length}
 use Rattle.words.specs.Rank.{rank_of}
-use Rattle.answers.specs.Says.{refuses, refused_if}
+use Rattle.answers.specs.Says.{refused_if}
 use Rattle.answers.specs.Terms.{word_of}
 use Rattle.answers.proofs.Terms.{rank_of_word_lem}
 use Rattle.taking.proofs.Accepted.{took}
 use Rattle.image_lookup.specs.Lookup.{entry_says}
 use Rattle.image_lookup.proofs.lookup_at.Goals as goal
 
-pub returns-in-Refused : goal.returns-in-Refused
-returns-in-Refused c = took c.args.x (refused_if (ltb (length c.args.image.now) (c.args.t.offset + 8 * c.args.t.entries)) 7 (entry_says c.args.image.now c.args.t (rank_of c.args.x.family (word_of c.args.x)))) c.take.result _ c.take.ensures c.in-Refused.is
-
-pub returns-then-size-t : goal.returns-then-size-t
-returns-then-size-t c =
-    let u : refuses 7 ≡ (refused_if (ltb (length c.args.image.now) (c.args.t.offset + 8 * c.args.t.entries)) 7 (entry_says c.args.image.now c.args.t (rank_of c.args.x.family (word_of c.args.x)))) = simp (lt-ltb (length c.args.image.now) (c.args.t.offset + 8 * c.args.t.entries) (omega arith)) in
-    u ∙ took c.args.x (refused_if (ltb (length c.args.image.now) (c.args.t.offset + 8 * c.args.t.entries)) 7 (entry_says c.args.image.now c.args.t (rank_of c.args.x.family (word_of c.args.x)))) c.take.result _ c.take.ensures c.in_default.is
-
-pub returns-then-size-t-2 : goal.returns-then-size-t-2
-returns-then-size-t-2 c =
-    let u : refuses 7 ≡ (refused_if (ltb (length c.args.image.now) (c.args.t.offset + 8 * c.args.t.entries)) 7 (entry_says c.args.image.now c.args.t (rank_of c.args.x.family (word_of c.args.x)))) = simp (lt-ltb (length c.args.image.now) (c.args.t.offset + 8 * c.args.t.entries) (omega arith)) in
-    u ∙ took c.args.x (refused_if (ltb (length c.args.image.now) (c.args.t.offset + 8 * c.args.t.entries)) 7 (entry_says c.args.image.now c.args.t (rank_of c.args.x.family (word_of c.args.x)))) c.take.result _ c.take.ensures c.in_default.is
-
 pub returns : goal.returns
 returns c =
     let u : (entry_says c.args.image.now c.args.t (rank_of c.args.x.family (word_of c.args.x))) ≡ (refused_if (ltb (length c.args.image.now) (c.args.t.offset + 8 * c.args.t.entries)) 7 (entry_says c.args.image.now c.args.t (rank_of c.args.x.family (word_of c.args.x)))) = simp (le-ltb (length c.args.image.now) (c.args.t.offset + 8 * c.args.t.entries) (omega arith)) in
-    c.entry.ensures ∙ ap (entry_says c.args.image.now c.args.t) (sym (rank_of_word_lem c.args.x)) ∙ u ∙ took c.args.x (refused_if (ltb (length c.args.image.now) (c.args.t.offset + 8 * c.args.t.entries)) 7 (entry_says c.args.image.now c.args.t (rank_of c.args.x.family (word_of c.args.x)))) c.take.result _ c.take.ensures c.in_default.is
+    c.entry.ensures ∙ ap (entry_says c.args.image.now c.args.t) (sym (rank_of_word_lem c.args.x)) ∙ u ∙ took c.args.x (refused_if (ltb (length c.args.image.now) (c.args.t.offset + 8 * c.args.t.entries)) 7 (entry_says c.args.image.now c.args.t (rank_of c.args.x.family (word_of c.args.x)))) c.take.result _ c.take.ensures c.in_ok-take.was

@@ -1,11 +1,7 @@
 -- `mass::some_other` meets its contract. The invariant: no row passed is another. Assumes nothing.
 use mathlib.Core.Path.{◌≡◌}
-use Prim.Native.Nat.{◌-◌, ◌≤◌}
 use Rattle.surface.specs.Surface.{some_other}
 use Rattle.mass.proofs.some_other.Given as goal
 
 abbrev pub invariant-loop-i : goal.invariant-loop-i
-invariant-loop-i l = (l.i ≤ l.t) × (some_other l.image l.t ≡ some_other l.image l.i)
-
-abbrev pub decreases-loop-i : goal.decreases-loop-i
-decreases-loop-i l = l.i
+invariant-loop-i l = some_other l.image l.t ≡ some_other l.image l.i

@@ -1,18 +1,11 @@
 -- `permutation::is_good` meets its contract: each return by the test that led there. Assumes nothing.
 use mathlib.Core.Path.{sym, ◌∙◌}
-use borrow.Author.Tests.{not-true, not-false}
 use Rattle.permutation.specs.Rules.{is_good}
 use Rattle.permutation.proofs.is_good.Goals as goal
-
-pub is_permutation-requires : goal.is_permutation-requires
-is_permutation-requires c = c.requires
 
 pub returns-then-not-is_permutation : goal.returns-then-not-is_permutation
 unfolding is_good
 returns-then-not-is_permutation c = simp (sym c.is_permutation.ensures ∙ c.if-not-is_permutation.true)
-
-pub nothing_past-requires : goal.nothing_past-requires
-nothing_past-requires c = c.requires
 
 pub returns : goal.returns
 unfolding is_good

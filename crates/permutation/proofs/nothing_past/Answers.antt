@@ -1,33 +1,18 @@
 -- `permutation::nothing_past` meets its contract: the entries passed are joined, and are 0 together exactly where each is. Assumes nothing.
 use mathlib.Core.Path.{sym}
-use Prim.Native.Nat.{◌-◌}
 use native.Mathlib.Omega.{arith}
-use Rattle.permutation.proofs.Past.{scan_none, scan_more, scan-finds-none, scan-finds-some}
+use lib.ListN.{drop, length-drop}
+use Rattle.permutation.proofs.Past.{scan_more, scan-finds-none, scan-finds-some, the-rest}
 use Rattle.permutation.proofs.nothing_past.Goals as goal
 
-pub loop-i-init : goal.loop-i-init
-loop-i-init c = (c.requires.0, scan_none c.args.entries.now c.args.n)
-
-pub offset_bounds-entries-i : goal.offset_bounds-entries-i
-offset_bounds-entries-i c = omega arith
-
-pub bounds-entries-i : goal.bounds-entries-i
-bounds-entries-i c = omega arith
-
-pub overflow_add-i : goal.overflow_add-i
-overflow_add-i c = omega arith
-
-pub loop-i-smaller : goal.loop-i-smaller
-loop-i-smaller c = omega arith
-
-pub loop-i-preserved : goal.loop-i-preserved
-loop-i-preserved c =
-    (omega arith, scan_more c.args.entries.now c.args.n c.loop-i.i c.loop-i.all c.loop-i.invariant.1)
+pub loop-x-preserved : goal.loop-x-preserved
+loop-x-preserved c =
+    rw (the-rest c.args.entries.now c.args.n c.requires.1) (scan_more (drop c.args.n c.args.entries.now) c.loop-x.x-index c.loop-x.all c.loop-x.invariant)
 
 pub returns-then-all-eq0 : goal.returns-then-all-eq0
 returns-then-all-eq0 c =
-    sym (scan-finds-none c.args.entries.now c.args.n c.loop-i.i c.loop-i.all c.requires.1 c.loop-i-test.false c.loop-i.invariant.1 c.if-all-eq0.true)
+    sym (scan-finds-none (drop c.args.n c.args.entries.now) c.loop-x.x-index c.loop-x.all (omega (arith, c.requires.1, length-drop c.args.n c.args.entries.now)) c.loop-x.invariant c.if-all-eq0.true)
 
 pub returns : goal.returns
 returns c =
-    sym (scan-finds-some c.args.entries.now c.args.n c.loop-i.i c.loop-i.all c.requires.1 c.loop-i-test.false c.loop-i.invariant.1 c.if-all-eq0.false)
+    sym (scan-finds-some (drop c.args.n c.args.entries.now) c.loop-x.x-index c.loop-x.all (omega (arith, c.requires.1, length-drop c.args.n c.args.entries.now)) c.loop-x.invariant c.if-all-eq0.false)

@@ -1,11 +1,11 @@
 -- `permutation_group::composed` meets its contract: the places passed hold p after q. Assumes nothing.
 use mathlib.Core.Path.{◌≡◌, sym, ap, ◌∙◌}
-use Prim.Native.Nat.{ℕ, ◌<◌, ◌-◌}
+use Prim.Native.Nat.{ℕ, ◌<◌}
 use native.Mathlib.Omega.{arith}
 use lib.ListN.{get_or}
 use Rattle.arrangements.specs.Permutation.{compose}
 use Rattle.arrangements.proofs.Group.{compose_at, compose_long}
-use Rattle.answers.proofs.Lent.{fill_none, fill_more}
+use Rattle.answers.proofs.Lent.{fill_more}
 use Rattle.permutation.specs.declared.Permutation.{Permutation}
 use Rattle.permutation.specs.Record.{arrangement_of, empty_entries, GoodRecord}
 use Rattle.permutation.proofs.Taken.{word_at, holds_below}
@@ -19,15 +19,6 @@ compose-entry p q f g e i l =
     ∙ ap (λ (j : ℕ). get_or (arrangement_of p) j 0) (sym (word_at q i (omega arith)))
     ∙ sym (compose_at (arrangement_of p) (arrangement_of q) i (omega (arith, g.permutation.long)))
 
-pub loop-i-init : goal.loop-i-init
-loop-i-init c = (omega arith, fill_none (at (compose (arrangement_of c.args.p) (arrangement_of c.args.q))) empty_entries)
-
-pub offset_bounds-q-i : goal.offset_bounds-q-i
-offset_bounds-q-i c = omega (arith, c.requires.left.short)
-
-pub bounds-q-i : goal.bounds-q-i
-bounds-q-i c = omega (arith, c.requires.left.short)
-
 pub offset_bounds-p-j : goal.offset_bounds-p-j
 offset_bounds-p-j c =
     omega (arith, c.requires.left.short, c.requires.lengths, holds_below c.args.q c.requires.right c.loop-i.i (omega (arith, c.requires.lengths)))
@@ -36,26 +27,12 @@ pub bounds-p-j : goal.bounds-p-j
 bounds-p-j c =
     omega (arith, c.requires.left.short, c.requires.lengths, holds_below c.args.q c.requires.right c.loop-i.i (omega (arith, c.requires.lengths)))
 
-pub offset_bounds-out-i : goal.offset_bounds-out-i
-offset_bounds-out-i c = omega (arith, c.requires.left.short)
-
-pub bounds-out-i : goal.bounds-out-i
-bounds-out-i c = omega (arith, c.requires.left.short)
-
-pub overflow_add-i : goal.overflow_add-i
-overflow_add-i c = omega arith
-
-pub loop-i-smaller : goal.loop-i-smaller
-loop-i-smaller c = omega arith
-
 pub loop-i-preserved : goal.loop-i-preserved
-loop-i-preserved c = (
-  omega arith,
-  fill_more (at (compose (arrangement_of c.args.p) (arrangement_of c.args.q))) empty_entries c.loop-i.out c.loop-i.i _ (omega (arith, c.requires.left.short))
-      (compose-entry c.args.p c.args.q c.requires.left c.requires.right c.requires.lengths c.loop-i.i c.loop-i-test.true) c.loop-i.invariant.1,
-)
+loop-i-preserved c =
+    fill_more (at (compose (arrangement_of c.args.p) (arrangement_of c.args.q))) empty_entries c.loop-i.out c.loop-i.i _ (omega (arith, c.requires.left.short))
+    (compose-entry c.args.p c.args.q c.requires.left c.requires.right c.requires.lengths c.loop-i.i c.loop-i-test.true) c.loop-i.invariant
 
 pub returns : goal.returns
 returns c =
-    filled_record (compose (arrangement_of c.args.p) (arrangement_of c.args.q)) c.loop-i.out c.loop-i.i c.args.p.len c.loop-i.invariant.1 (omega arith)
+    filled_record (compose (arrangement_of c.args.p) (arrangement_of c.args.q)) c.loop-i.out c.loop-i.i c.args.p.len c.loop-i.invariant (omega arith)
     (compose_long (arrangement_of c.args.p) (arrangement_of c.args.q) ∙ c.requires.right.permutation.long ∙ sym c.requires.lengths) c.requires.left.short

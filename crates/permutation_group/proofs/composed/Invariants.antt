@@ -1,5 +1,4 @@
 -- `permutation_group::composed` meets its contract: the places passed hold p after q. Assumes nothing.
-use Prim.Native.Nat.{◌≤◌, ◌-◌}
 use Rattle.arrangements.specs.Permutation.{compose}
 use Rattle.answers.proofs.Lent.{Filled}
 use Rattle.permutation.specs.Record.{arrangement_of, empty_entries}
@@ -7,7 +6,4 @@ use Rattle.permutation.proofs.Filled.{at}
 use Rattle.permutation_group.proofs.composed.Given as goal
 
 abbrev pub invariant-loop-i : goal.invariant-loop-i
-invariant-loop-i l = (l.i ≤ l.n) × Filled (at (compose (arrangement_of l.p) (arrangement_of l.q))) empty_entries l.out l.i
-
-abbrev pub decreases-loop-i : goal.decreases-loop-i
-decreases-loop-i l = l.n - l.i
+invariant-loop-i l = Filled (at (compose (arrangement_of l.p) (arrangement_of l.q))) empty_entries l.out l.i

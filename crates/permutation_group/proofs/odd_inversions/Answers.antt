@@ -1,6 +1,6 @@
 -- `permutation_group::odd_inversions` meets its contract, by the set of the entries seen. Assumes nothing.
 use mathlib.Core.Path.{sym}
-use Prim.Native.Nat.{ℕ, ◌<◌, ◌-◌}
+use Prim.Native.Nat.{ℕ, ◌<◌}
 use native.Mathlib.Omega.{arith}
 use lib.ListN.{length, get_or}
 use Rattle.seen.proofs.Turns.{one_digit, turned_none, turned-below, turned_more, turned_all}
@@ -18,13 +18,7 @@ there : (p : Permutation) → GoodRecord p → (i : ℕ) → i < p.len → i < l
 there p h i l = omega (arith, l, h.permutation.long)
 
 pub loop-i-init : goal.loop-i-init
-loop-i-init c = (omega arith, turned_none capacity (arrangement_of c.args.p))
-
-pub offset_bounds-p-i : goal.offset_bounds-p-i
-offset_bounds-p-i c = omega (arith, c.requires.short)
-
-pub bounds-p-i : goal.bounds-p-i
-bounds-p-i c = omega (arith, c.requires.short)
+loop-i-init c = turned_none capacity (arrangement_of c.args.p)
 
 pub overflow_shr-odd : goal.overflow_shr-odd
 overflow_shr-odd c = omega (arith, small c.args.p c.requires c.loop-i.i c.loop-i-test.true)
@@ -34,18 +28,12 @@ overflow_shl-seen c = omega (arith, small c.args.p c.requires c.loop-i.i c.loop-
 
 pub overflow_add-seen : goal.overflow_add-seen
 overflow_add-seen c =
-    omega (arith, turned-below capacity (arrangement_of c.args.p) c.loop-i.i c.loop-i.seen (holds_apart c.args.p c.requires) (there c.args.p c.requires c.loop-i.i c.loop-i-test.true) (get_or c.args.p.entries c.loop-i.i 0) _ c.loop-i.invariant.1.digits (sym (word_at c.args.p c.loop-i.i c.loop-i-test.true)) (one_digit 64 (get_or c.args.p.entries c.loop-i.i 0) (small c.args.p c.requires c.loop-i.i c.loop-i-test.true)))
-
-pub overflow_add-i : goal.overflow_add-i
-overflow_add-i c = omega (arith, c.requires.short)
-
-pub loop-i-smaller : goal.loop-i-smaller
-loop-i-smaller c = omega arith
+    omega (arith, turned-below capacity (arrangement_of c.args.p) c.loop-i.i c.loop-i.seen (holds_apart c.args.p c.requires) (there c.args.p c.requires c.loop-i.i c.loop-i-test.true) (get_or c.args.p.entries c.loop-i.i 0) _ c.loop-i.invariant.digits (sym (word_at c.args.p c.loop-i.i c.loop-i-test.true)) (one_digit 64 (get_or c.args.p.entries c.loop-i.i 0) (small c.args.p c.requires c.loop-i.i c.loop-i-test.true)))
 
 pub loop-i-preserved : goal.loop-i-preserved
 loop-i-preserved c =
-    (omega arith, turned_more capacity (arrangement_of c.args.p) c.loop-i.i c.loop-i.seen (holds_apart c.args.p c.requires) (there c.args.p c.requires c.loop-i.i c.loop-i-test.true) c.loop-i.odd (get_or c.args.p.entries c.loop-i.i 0) _ c.loop-i.invariant.1 (sym (word_at c.args.p c.loop-i.i c.loop-i-test.true)) (one_digit 64 (get_or c.args.p.entries c.loop-i.i 0) (small c.args.p c.requires c.loop-i.i c.loop-i-test.true)))
+    turned_more capacity (arrangement_of c.args.p) c.loop-i.i c.loop-i.seen (holds_apart c.args.p c.requires) (there c.args.p c.requires c.loop-i.i c.loop-i-test.true) c.loop-i.odd (get_or c.args.p.entries c.loop-i.i 0) _ c.loop-i.invariant (sym (word_at c.args.p c.loop-i.i c.loop-i-test.true)) (one_digit 64 (get_or c.args.p.entries c.loop-i.i 0) (small c.args.p c.requires c.loop-i.i c.loop-i-test.true))
 
 pub returns : goal.returns
 returns c =
-    turned_all capacity (arrangement_of c.args.p) c.loop-i.i c.loop-i.seen c.loop-i.odd c.loop-i.invariant.1 (omega (arith, c.loop-i-test.false, c.requires.permutation.long))
+    turned_all capacity (arrangement_of c.args.p) c.loop-i.i c.loop-i.seen c.loop-i.odd c.loop-i.invariant (omega (arith, c.loop-i-test.false, c.requires.permutation.long))

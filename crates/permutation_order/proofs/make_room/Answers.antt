@@ -1,14 +1,14 @@
 -- `permutation_order::make_room` meets its contract: the places passed hold the raised entries. Assumes nothing.
 use mathlib.Core.Path.{◌≡◌, refl, sym, ap, subst, ◌∙◌}
 use mathlib.Core.List.{List}
-use Prim.Native.Nat.{ℕ, zero, suc, ◌+◌, ◌-◌}
+use Prim.Native.Nat.{ℕ, zero, suc, ◌+◌}
 use native.Mathlib.Nat.{le_refl}
 use native.Mathlib.Numerals.{add-one}
 use native.Mathlib.Omega.{arith}
-use lib.ListN.{length, get_or, take, replicate}
+use lib.ListN.{length, get_or, replicate}
 use Rattle.arrangements.specs.Rank.{raise, lastly}
 use Rattle.arrangements.proofs.Unrank.{lastly_at, lastly_end, lastly_long}
-use Rattle.answers.proofs.Lent.{Filled, fill_none, fill_more}
+use Rattle.answers.proofs.Lent.{Filled, fill_more}
 use Rattle.permutation.specs.Record.{capacity, empty_entries, arrangement_of, GoodRecord}
 use Rattle.permutation.proofs.Taken.{word_at, holds_below}
 use Rattle.permutation.proofs.Filled.{at, filled_record}
@@ -24,46 +24,17 @@ zero_there (suc m) (suc k) = zero_there m k
 rebased : (f : ℕ → ℕ) (e out : List ℕ) (n : ℕ) → GoodRecord (held e n) → length e ≡ capacity → Filled f e out (n + 1) → Filled f empty_entries out (n + 1)
 rebased f e out n g l o = record { long = o.long ∙ l; done = o.done; rest = λ k h. o.rest k h ∙ g.past k (omega arith) ∙ sym (zero_there capacity k) }
 
-pub loop-i-init : goal.loop-i-init
-loop-i-init c = (omega arith, fill_none (at (lastly c.args.d (take c.args.n c.args.entries.now))) c.args.entries.now)
-
-pub offset_bounds-entries-i : goal.offset_bounds-entries-i
-offset_bounds-entries-i c = omega (arith, c.requires.2)
-
-pub bounds-entries-i : goal.bounds-entries-i
-bounds-entries-i c = omega (arith, c.requires.1, c.requires.2, c.loop-i.invariant.1.long)
-
 pub raised-requires : goal.raised-requires
 raised-requires c =
-    omega (arith, c.requires.2, c.loop-i.invariant.1.rest c.loop-i.i (le_refl c.loop-i.i), holds_below (held c.args.entries.now c.args.n) c.requires.0 c.loop-i.i c.loop-i-test.true)
-
-pub offset_bounds-entries-i-in-loop-i : goal.offset_bounds-entries-i-in-loop-i
-offset_bounds-entries-i-in-loop-i c = omega (arith, c.requires.2)
-
-pub bounds-entries-i-in-loop-i : goal.bounds-entries-i-in-loop-i
-bounds-entries-i-in-loop-i c = omega (arith, c.requires.1, c.requires.2, c.loop-i.invariant.1.long)
-
-pub overflow_add-i : goal.overflow_add-i
-overflow_add-i c = omega arith
-
-pub loop-i-smaller : goal.loop-i-smaller
-loop-i-smaller c = omega arith
+    omega (arith, c.requires.2, c.loop-i.invariant.rest c.loop-i.i (le_refl c.loop-i.i), holds_below (held c.args.entries.now c.args.n) c.requires.0 c.loop-i.i c.loop-i-test.true)
 
 pub loop-i-preserved : goal.loop-i-preserved
 loop-i-preserved c =
-    let p = held c.args.entries.now c.args.n in (
-      omega arith,
-      fill_more (at (lastly c.args.d (arrangement_of p))) c.args.entries.now c.loop-i.entries c.loop-i.i _ (omega (arith, c.requires.1, c.requires.2, c.loop-i-test.true))
-          (c.raised.ensures ∙ ap (raise c.args.d) (c.loop-i.invariant.1.rest c.loop-i.i (le_refl c.loop-i.i) ∙ sym (word_at p c.loop-i.i c.loop-i-test.true))
-          ∙ sym (lastly_at c.args.d (arrangement_of p) c.loop-i.i (omega (arith, c.loop-i-test.true, c.requires.0.permutation.long))))
-          c.loop-i.invariant.1,
-    )
-
-pub offset_bounds-entries-n : goal.offset_bounds-entries-n
-offset_bounds-entries-n c = omega (arith, c.requires.2)
-
-pub bounds-entries-n : goal.bounds-entries-n
-bounds-entries-n c = omega (arith, c.requires.1, c.requires.2, c.loop-i.invariant.1.long)
+    let p = held c.args.entries.now c.args.n in
+    fill_more (at (lastly c.args.d (arrangement_of p))) c.args.entries.now c.loop-i.entries c.loop-i.i _ (omega (arith, c.requires.1, c.requires.2, c.loop-i-test.true))
+    (c.raised.ensures ∙ ap (raise c.args.d) (c.loop-i.invariant.rest c.loop-i.i (le_refl c.loop-i.i) ∙ sym (word_at p c.loop-i.i c.loop-i-test.true))
+    ∙ sym (lastly_at c.args.d (arrangement_of p) c.loop-i.i (omega (arith, c.loop-i-test.true, c.requires.0.permutation.long))))
+    c.loop-i.invariant
 
 pub returns : goal.returns
 returns c =
@@ -73,5 +44,5 @@ returns c =
     filled_record (lastly c.args.d w) _ (n + 1) (n + 1)
     (rebased (at (lastly c.args.d w)) c.args.entries.now _ n c.requires.0 c.requires.1
     (fill_more (at (lastly c.args.d w)) c.args.entries.now c.loop-i.entries n c.args.d (omega (arith, c.requires.1, c.requires.2))
-    (sym (lastly_end c.args.d w n (sym c.requires.0.permutation.long))) (subst (Filled (at (lastly c.args.d w)) c.args.entries.now c.loop-i.entries) i c.loop-i.invariant.1)))
+    (sym (lastly_end c.args.d w n (sym c.requires.0.permutation.long))) (subst (Filled (at (lastly c.args.d w)) c.args.entries.now c.loop-i.entries) i c.loop-i.invariant)))
     refl (lastly_long c.args.d w ∙ ap suc c.requires.0.permutation.long ∙ sym (add-one n)) (omega (arith, c.requires.2))

@@ -1,5 +1,4 @@
 -- `permutation_order::stepped` meets its contract: the places passed hold the step. Assumes nothing.
-use Prim.Native.Nat.{◌≤◌, ◌-◌}
 use Rattle.arrangements.specs.Step.{step}
 use Rattle.answers.proofs.Lent.{Filled}
 use Rattle.permutation.specs.Record.{empty_entries, arrangement_of}
@@ -7,7 +6,4 @@ use Rattle.permutation.proofs.Filled.{at}
 use Rattle.permutation_order.proofs.stepped.Given as goal
 
 abbrev pub invariant-loop-j : goal.invariant-loop-j
-invariant-loop-j l = (l.j ≤ l.n) × Filled (at (step l.i l.k (arrangement_of l.p))) empty_entries l.out l.j
-
-abbrev pub decreases-loop-j : goal.decreases-loop-j
-decreases-loop-j l = l.n - l.j
+invariant-loop-j l = Filled (at (step l.i l.k (arrangement_of l.p))) empty_entries l.out l.j

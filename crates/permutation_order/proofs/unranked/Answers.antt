@@ -1,6 +1,6 @@
 -- `permutation_order::unranked` meets its contract: the digits passed have made the entries, and the others are left. Assumes nothing.
 use mathlib.Core.Path.{◌≡◌, sym, ap, ◌∙◌}
-use Prim.Native.Nat.{ℕ, ◌-◌}
+use Prim.Native.Nat.{ℕ}
 use native.Mathlib.Omega.{arith}
 use Rattle.permutation.specs.Record.{record_of}
 use Rattle.permutation_order.specs.Rules.{held}
@@ -8,31 +8,19 @@ use Rattle.permutation_order.proofs.Making.{made, make_none, rest_none, make-mor
 use Rattle.permutation_order.proofs.unranked.Goals as goal
 
 pub loop-j-init : goal.loop-j-init
-loop-j-init c = (omega arith, make_none c.args.r, rest_none c.args.r)
-
-pub overflow_add-k : goal.overflow_add-k
-overflow_add-k c = omega arith
-
-pub nonzero_rem-rest : goal.nonzero_rem-rest
-nonzero_rem-rest c = omega arith
+loop-j-init c = (make_none c.args.r, rest_none c.args.r)
 
 pub make_room-requires : goal.make_room-requires
 make_room-requires c =
-    let h = made_holds c.loop-j.j c.args.r (held c.loop-j.entries c.loop-j.j) c.loop-j.invariant.1 (omega arith) in
-    (h.0, made-whole c.loop-j.j c.args.r (held c.loop-j.entries c.loop-j.j) c.loop-j.invariant.1 (omega arith), omega arith)
-
-pub nonzero_div-rest : goal.nonzero_div-rest
-nonzero_div-rest c = omega arith
-
-pub loop-j-smaller : goal.loop-j-smaller
-loop-j-smaller c = omega arith
+    let h = made_holds c.loop-j.j c.args.r (held c.loop-j.entries c.loop-j.j) c.loop-j.invariant.0 (omega arith) in
+    (h.0, made-whole c.loop-j.j c.args.r (held c.loop-j.entries c.loop-j.j) c.loop-j.invariant.0 (omega arith), omega arith)
 
 pub loop-j-preserved : goal.loop-j-preserved
 loop-j-preserved c =
-    (omega arith, make-more c.loop-j.j c.args.r c.loop-j.rest c.loop-j.invariant.2 (held c.loop-j.entries c.loop-j.j) _ c.loop-j.invariant.1 c.make_room.ensures, rest_more c.loop-j.j c.args.r c.loop-j.rest c.loop-j.invariant.2)
+    (make-more c.loop-j.j c.args.r c.loop-j.rest c.loop-j.invariant.1 (held c.loop-j.entries c.loop-j.j) _ c.loop-j.invariant.0 c.make_room.ensures, rest_more c.loop-j.j c.args.r c.loop-j.rest c.loop-j.invariant.1)
 
 pub returns : goal.returns
 unfolding made
 returns c =
     let e : c.loop-j.j ≡ c.args.n = omega arith in
-    ap (held c.loop-j.entries) (sym e) ∙ c.loop-j.invariant.1 ∙ ap (λ (j : ℕ). record_of (made j c.args.r)) e
+    ap (held c.loop-j.entries) (sym e) ∙ c.loop-j.invariant.0 ∙ ap (λ (j : ℕ). record_of (made j c.args.r)) e

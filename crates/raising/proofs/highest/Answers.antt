@@ -3,7 +3,7 @@ use Rattle.raising.proofs.Raises.{highest_forbidden, highest_allowed}
 use Rattle.raising.proofs.highest.Goals as goal
 
 pub returns-in-Forbidden : goal.returns-in-Forbidden
-returns-in-Forbidden c = highest_forbidden c.args.family c.args.n c.args.d c.less.result c.less-top.result c.in-Forbidden.is c.less-top.ensures c.less.ensures
+returns-in-Forbidden c = highest_forbidden c.args.family c.args.n c.args.d c.saturating_sub.result c.saturating_sub-top.result c.in-Forbidden.is c.saturating_sub-top.ensures c.saturating_sub.ensures
 
 pub returns-in-Allowed : goal.returns-in-Allowed
-returns-in-Allowed c = highest_allowed c.args.family c.args.n c.args.d c.less-top.result c.in-Allowed.is c.less-top.ensures
+returns-in-Allowed c = highest_allowed c.args.family c.args.n c.args.d c.saturating_sub-top.result c.in-Allowed.is c.saturating_sub-top.ensures

@@ -1,12 +1,8 @@
 -- `rank_all::write` meets its contract: the places passed hold the ranks. Assumes nothing.
-use Prim.Native.Nat.{◌≤◌, ◌-◌}
-use lib.ListN.{length, get_or}
+use lib.ListN.{get_or}
 use Rattle.answers.proofs.Lent.{Filled}
 use Rattle.rank_all.specs.Rules.{set_ranks}
 use Rattle.rank_all.proofs.write.Given as goal
 
 abbrev pub invariant-loop-i : goal.invariant-loop-i
-invariant-loop-i l = (l.i ≤ length l.bits) × Filled (λ k. get_or (set_ranks l.bits) k 0) l.initial.out l.out l.i
-
-abbrev pub decreases-loop-i : goal.decreases-loop-i
-decreases-loop-i l = length l.bits - l.i
+invariant-loop-i l = Filled (λ k. get_or (set_ranks l.bits) k 0) l.initial.out l.out l.i

@@ -1,6 +1,5 @@
--- `requests::after_numbers` meets its contract: what is passed and what is still ahead are the numbers from place i on. The measure is what is left of the words. Assumes nothing.
+-- `requests::after_numbers` meets its contract: what is passed and what is still ahead are the numbers from place i on. Assumes nothing.
 use native.Mathlib.Omega.{arith}
-use Prim.Native.Nat.{◌-◌}
 use Rattle.requests.proofs.Fitting.{numbers_more, numbers_end, numbers-past}
 use Rattle.requests.proofs.after_numbers.Goals as goal
 
@@ -11,4 +10,4 @@ pub loop-to-preserved : goal.loop-to-preserved
 loop-to-preserved c = omega (arith, numbers_more c.args.kinds.now c.loop-to.to c.loop-to-test.true c.if-kinds-to-ne110.false)
 
 pub returns : goal.returns
-returns c = omega (arith, numbers-past c.args.kinds.now c.loop-to.to c.loop-to-test.false)
+returns c = grind (arith, numbers-past c.args.kinds.now c.loop-to.to c.loop-to-test.false, numbers-past c.args.kinds.now c.args.i)

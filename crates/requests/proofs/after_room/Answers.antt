@@ -9,8 +9,8 @@ returns-then-from-line c = no_number_past _ _ (omega arith)
 pub returns-then-end-line : goal.returns-then-end-line
 returns-then-end-line c = no-verb-after _ _ _ (omega arith) c.find-end.ensures (omega arith)
 
-pub returns-in_default : goal.returns-in_default
-returns-in_default c = no_number _ _ _ (omega arith) c.find-end.ensures _ c.in_default.is c.read_number.ensures
+pub returns-in_err-room : goal.returns-in_err-room
+returns-in_err-room c = rw c.from_residual.ensures (no_number _ _ _ (omega arith) c.find-end.ensures _ c.in_err-room.was c.read_number.ensures)
 
 pub returns : goal.returns
-returns c = number-then-verb _ _ _ (omega arith) c.find-end.ensures _ _ c.verb_at.result c.in-Is.is c.read_number.ensures c.verb_at.ensures
+returns c = number-then-verb _ _ _ (omega arith) c.find-end.ensures _ _ c.verb_at.result c.in_ok-room.was c.read_number.ensures c.verb_at.ensures

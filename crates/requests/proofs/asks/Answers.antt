@@ -3,7 +3,6 @@ use mathlib.Core.Path.{◌≡◌}
 use mathlib.Core.Bool.{Bool, true, false}
 use Prim.Native.Nat.{ℕ}
 use native.Mathlib.Omega.{arith}
-use borrow.Author.Tests.{not-true, not-false}
 use Rattle.requests.proofs.Entries.{another-verb, no-pattern, pattern-decides}
 use Rattle.requests.proofs.asks.Goals as goal
 

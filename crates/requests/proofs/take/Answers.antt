@@ -2,8 +2,8 @@
 use Rattle.requests.proofs.Passing.{number_in, other-in}
 use Rattle.requests.proofs.take.Goals as goal
 
-pub returns-in-Is : goal.returns-in-Is
-returns-in-Is c = number_in _ _ _ _ _ _ c.in-Is.is c.read_number.ensures
+pub returns-in-Some : goal.returns-in-Some
+returns-in-Some c = number_in _ _ _ _ _ _ c.in-Some.is c.read_number.ensures
 
-pub returns-in-Bad : goal.returns-in-Bad
-returns-in-Bad c = other-in _ _ _ _ _ _ c.in-Bad.is c.read_number.ensures c.kind-k.ensures
+pub returns-in-None : goal.returns-in-None
+returns-in-None c = other-in _ _ _ _ _ _ c.in-None.is c.read_number.ensures c.kind-k.ensures

@@ -9,19 +9,19 @@ returns-then-a-line c F n k o = omega (arith, space_of_asks _ _ F n k c.find-a.e
 pub returns-then-b-line : goal.returns-then-b-line
 returns-then-b-line c F n k o = omega (arith, (parts_of_asks _ _ _ F n k c.find-a.ensures c.find-b.ensures o).second_space)
 
-pub returns-in_default : goal.returns-in_default
-returns-in_default c =
-    no_name _ _ _ c.find-a.ensures c.find-b.ensures _ c.in_default.is c.family.ensures
+pub returns-in_err-family : goal.returns-in_err-family
+returns-in_err-family c =
+    rw c.from_residual.ensures (no_name _ _ _ c.find-a.ensures c.find-b.ensures _ c.in_err-family.was c.family.ensures)
 
-pub returns-in_default-read_number : goal.returns-in_default-read_number
-returns-in_default-read_number c =
-    no-first _ _ _ c.find-a.ensures c.find-b.ensures _ c.in_default-read_number.is c.read_number.ensures
+pub returns-in_err-n : goal.returns-in_err-n
+returns-in_err-n c =
+    rw c.from_residual-in_err-n.ensures (no-first _ _ _ c.find-a.ensures c.find-b.ensures _ c.in_err-n.was c.read_number.ensures)
 
-pub returns-in_default-read_number-2 : goal.returns-in_default-read_number-2
-returns-in_default-read_number-2 c =
-    no_second _ _ _ c.find-a.ensures c.find-b.ensures _ c.in_default-read_number-2.is c.read_number-2.ensures
+pub returns-in_err-k : goal.returns-in_err-k
+returns-in_err-k c =
+    rw c.from_residual-in_err-k.ensures (no_second _ _ _ c.find-a.ensures c.find-b.ensures _ c.in_err-k.was c.read_number-2.ensures)
 
 pub returns : goal.returns
 returns c =
     all-parts _ _ _ c.find-a.ensures c.find-b.ensures _ _ _ _ _ _ c.if-a-line.false c.if-b-line.false
-    c.in-Family.is c.family.ensures c.in-Is.is c.read_number.ensures c.in-Is-read_number.is c.read_number-2.ensures
+    c.in_ok-family.was c.family.ensures c.in_ok-n.was c.read_number.ensures c.in_ok-k.was c.read_number-2.ensures

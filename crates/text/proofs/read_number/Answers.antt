@@ -1,8 +1,7 @@
 -- `text::read_number` meets its contract. The invariant: what was passed are digits, and n with the digits that are left is the word's number.
--- The measure is what is left of the word. Assumes nothing.
+-- Assumes nothing.
 use mathlib.Core.Path.{◌≡◌, refl, sym, ap, ◌∙◌}
 use mathlib.Core.List.{List}
-use mathlib.Core.Logic.{⊎_elim}
 use Prim.Native.Nat.{ℕ, ◌+◌, ◌-◌, ◌*◌, ◌^◌, ◌≤◌, ◌<◌}
 use native.Mathlib.Omega.{arith}
 use lib.ListN.{length, get_or, drop}
@@ -33,59 +32,34 @@ returns-then-word-eq0 c = λ n h o. omega (arith, o.some)
 pub returns-then-word-gt1 : goal.returns-then-word-gt1
 returns-then-word-gt1 c = λ n h o. o.plain c.if-word-gt1.true c.if-word-eq48.true
 
-pub loop-i-init : goal.loop-i-init
-loop-i-init c = (omega arith, omega arith, elim c.if-word-eq48.branch [ then-word-eq48+else-word-gt1 w ↦ λ l e. omega arith | else-word-eq48 w ↦ λ l e. w.if-word-eq48.false e ], λ k l. absurd (omega arith), refl)
-
-pub bounds-word-i : goal.bounds-word-i
-bounds-word-i c = omega arith
+pub loop-b-init : goal.loop-b-init
+loop-b-init c = (omega arith, elim c.if-word-eq48.branch [ then-word-eq48+else-word-gt1 w ↦ λ l e. omega arith | else-word-eq48 w ↦ λ l e. w.if-word-eq48.false e ], λ k l. absurd (omega arith), refl)
 
 pub returns-then-b-lt48 : goal.returns-then-b-lt48
-returns-then-b-lt48 c = λ n h o. omega (arith, o.digits c.loop-i.i (omega arith))
+returns-then-b-lt48 c = λ n h o. omega (arith, o.digits c.loop-b.b-index (omega arith))
 
 pub returns-then-b-gt57 : goal.returns-then-b-gt57
-returns-then-b-gt57 c = λ n h o. omega (arith, o.digits c.loop-i.i (omega arith))
-
-pub wide-d-requires : goal.wide-d-requires
-wide-d-requires c = tt
-
-pub overflow_sub-d : goal.overflow_sub-d
-overflow_sub-d c = omega arith
-
-pub overflow_sub-d-in-loop-i : goal.overflow_sub-d-in-loop-i
-overflow_sub-d-in-loop-i c = omega arith
+returns-then-b-gt57 c = λ n h o. omega (arith, o.digits c.loop-b.b-index (omega arith))
 
 pub returns-then-n-d : goal.returns-then-n-d
-returns-then-n-d c = λ n h o. too_big_lem _ _ c.loop-i.i n (omega arith) (omega arith) c.loop-i.invariant.4 h o.value
+returns-then-n-d c = λ n h o. too_big_lem _ _ c.loop-b.b-index n (omega arith) (omega arith) c.loop-b.invariant.3 h o.value
 
-pub overflow_mul-n : goal.overflow_mul-n
-overflow_mul-n c = omega arith
-
-pub overflow_add-n : goal.overflow_add-n
-overflow_add-n c = omega arith
-
-pub overflow_add-i : goal.overflow_add-i
-overflow_add-i c = omega arith
-
-pub loop-i-smaller : goal.loop-i-smaller
-loop-i-smaller c = omega arith
-
-pub loop-i-preserved : goal.loop-i-preserved
-loop-i-preserved c = (
+pub loop-b-preserved : goal.loop-b-preserved
+loop-b-preserved c = (
   omega arith,
-  omega arith,
-  c.loop-i.invariant.2,
-  below_more (λ k. IsDigit (get_or c.args.word.now k 0)) _ c.loop-i.invariant.3 (omega arith, omega arith),
-  read_on c.args.word.now _ _ _ (omega arith) c.wide-d.ensures ∙ c.loop-i.invariant.4,
+  c.loop-b.invariant.1,
+  below_more (λ k. IsDigit (get_or c.args.word.now k 0)) _ c.loop-b.invariant.2 (omega arith, omega arith),
+  read_on c.args.word.now _ c.loop-b.b-index _ (omega arith) c.wide-d.ensures ∙ c.loop-b.invariant.3,
 )
 
 pub returns : goal.returns
 returns c =
-    let all : c.loop-i.i ≡ length c.args.word.now = omega arith in (
+    let all : c.loop-b.b-index ≡ length c.args.word.now = omega arith in (
       record {
         some = omega arith;
-        digits = λ k l. c.loop-i.invariant.3 k (omega arith);
-        plain = c.loop-i.invariant.2;
-        value = sym c.loop-i.invariant.4 ∙ read_all c.args.word.now _ c.loop-i.i all;
+        digits = λ k l. c.loop-b.invariant.2 k (omega arith);
+        plain = c.loop-b.invariant.1;
+        value = sym c.loop-b.invariant.3 ∙ read_all c.args.word.now _ c.loop-b.b-index all;
       },
-      c.loop-i.invariant.1,
+      c.loop-b.invariant.0,
     )

@@ -1,8 +1,8 @@
 -- `text::spell` meets its contract. The invariant: the places from i on hold the last digits of n, rest is what the digits before them write, and there is room for those.
--- The measure is the number of places that are left. Assumes nothing.
+-- Assumes nothing.
 use mathlib.Core.Path.{◌≡◌, sym, ap, subst, ◌∙◌}
 use mathlib.Core.List.{List, ◌∷◌}
-use Prim.Native.Nat.{ℕ, suc, ◌+◌, ◌-◌, ◌/◌, ◌%◌, ◌<◌}
+use Prim.Native.Nat.{ℕ, suc, ◌+◌, ◌-◌, ◌/◌, ◌%◌, ◌^◌, ◌<◌}
 use native.Mathlib.Omega.{arith}
 use lib.ListN.{length, drop, set, length-set, drop_of_length-le}
 use Rattle.text.proofs.Value.{Spelled, spelled_first, spelled_more, spelled_all, room_for_digit, set_front}
@@ -24,44 +24,23 @@ next_digit text i rest n e p h q o =
     (sym (set_front text (i - 1) (48 + rest % 10) (omega arith) ∙ ap (λ (k : ℕ). (48 + rest % 10) ∷ drop k text) s))
     (spelled_more rest (drop i text) n q o)
 
-pub overflow_cast-text : goal.overflow_cast-text
-overflow_cast-text c = omega arith
+pub loop-i-init : goal.loop-i-init
+loop-i-init c = (omega arith, last_digit c.args.text.now _ c.requires)
 
-pub overflow_add-text : goal.overflow_add-text
-overflow_add-text c = omega arith
+pub returns-then-rest-eq0 : goal.returns-then-rest-eq0
+returns-then-rest-eq0 c =
+    let s : c.loop-i.i - 1 + 1 ≡ c.loop-i.i = omega arith in
+    rw s (omega arith, spelled_all _ _ _ c.if-rest-eq0.true c.loop-i.invariant.1)
 
-pub bounds-text-19 : goal.bounds-text-19
-bounds-text-19 c = omega arith
-
-pub loop-rest-init : goal.loop-rest-init
-loop-rest-init c = (simp length-set c.requires, omega arith, omega arith, last_digit c.args.text.now _ c.requires)
-
-pub overflow_sub-i : goal.overflow_sub-i
-overflow_sub-i c = (room_for_digit _ _ c.loop-rest-test.true c.loop-rest.invariant.2).0
-
-pub overflow_cast-text-in-loop-rest : goal.overflow_cast-text-in-loop-rest
-overflow_cast-text-in-loop-rest c = omega arith
-
-pub overflow_add-text-in-loop-rest : goal.overflow_add-text-in-loop-rest
-overflow_add-text-in-loop-rest c = omega arith
-
-pub bounds-text-i : goal.bounds-text-i
-bounds-text-i c = omega (arith, (room_for_digit _ _ c.loop-rest-test.true c.loop-rest.invariant.2).0)
-
-pub loop-rest-smaller : goal.loop-rest-smaller
-loop-rest-smaller c = omega (arith, (room_for_digit _ _ c.loop-rest-test.true c.loop-rest.invariant.2).0)
-
-pub loop-rest-preserved : goal.loop-rest-preserved
-loop-rest-preserved c =
-    let room = room_for_digit _ _ c.loop-rest-test.true c.loop-rest.invariant.2 in (
-      simp length-set c.loop-rest.invariant.0,
-      omega arith,
-      room.1,
-      next_digit _ _ _ _ c.loop-rest.invariant.0 room.0 c.loop-rest.invariant.1 c.loop-rest-test.true c.loop-rest.invariant.3,
+pub loop-i-preserved : goal.loop-i-preserved
+loop-i-preserved c =
+    let long : length c.loop-i.text ≡ 20 = c.loop-i.auto.text ∙ simp length-set c.requires in (
+      room_for_digit _ _ (omega arith) c.loop-i.invariant.0,
+      next_digit _ _ _ _ long (omega arith) (omega arith) (omega arith) c.loop-i.invariant.1,
     )
 
-pub shape_of-text : goal.shape_of-text
-shape_of-text c = omega arith
-
 pub returns : goal.returns
-returns c = (c.loop-rest.invariant.1, spelled_all _ _ _ (omega arith) c.loop-rest.invariant.3)
+returns c =
+    let first : c.loop-i.i ≡ 0 = omega arith in
+    let none : c.loop-i.rest ≡ 0 = let room = subst (λ (k : ℕ). c.loop-i.rest < 10 ^ k) first c.loop-i.invariant.0 in omega arith in
+    (omega arith, spelled_all _ _ _ none (subst (λ (k : ℕ). Spelled c.loop-i.rest (drop k c.loop-i.text) c.args.n) first c.loop-i.invariant.1))

@@ -1,10 +1,7 @@
--- `triangle::cell` meets its contract. The invariant: the rest is counted from where row n begins. The measure is the rest. Assumes nothing.
+-- `triangle::cell` meets its contract. The invariant: the rest is counted from where row n begins. Assumes nothing.
 use mathlib.Core.Path.{◌≡◌}
-use Prim.Native.Nat.{◌+◌, ◌-◌, ◌*◌, ◌/◌, ◌≤◌}
+use Prim.Native.Nat.{◌+◌, ◌-◌, ◌*◌, ◌/◌}
 use Rattle.triangle.proofs.cell.Given as goal
 
 abbrev pub invariant-loop-n : goal.invariant-loop-n
-invariant-loop-n l = (2 ≤ l.n) × (l.n ≤ 64) × ((l.n - 1) * (l.n - 1) / 4 + l.rest ≡ l.h * 64 + l.i)
-
-abbrev pub decreases-loop-n : goal.decreases-loop-n
-decreases-loop-n l = l.rest
+invariant-loop-n l = (l.n - 1) * (l.n - 1) / 4 + l.rest ≡ l.h * 64 + l.i

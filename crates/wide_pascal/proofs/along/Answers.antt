@@ -11,7 +11,7 @@ use Rattle.wide_pascal.proofs.along.Goals.{Else-factor-whole, In-loop-i}
 
 -- what a turn finds
 turn : (c : In-loop-i) → Step c.args.n c.loop-i.i c.loop-i.c
-turn c = step _ _ _ c.requires (omega arith) c.loop-i.invariant.1
+turn c = step _ _ _ c.requires (omega arith) c.loop-i.invariant
 
 -- the first part fits
 first : (c : Else-factor-whole)
@@ -21,23 +21,8 @@ first c = within _ _ _ (omega arith) (omega arith)
 pub returns-then-n-k : goal.returns-then-n-k
 returns-then-n-k c = held c.args.n c.args.k 0 (omega arith) (sym (entry-few _ _ c.if-n-k.true))
 
-pub nearer-j-requires : goal.nearer-j-requires
-nearer-j-requires c = omega arith
-
 pub loop-i-init : goal.loop-i-init
-loop-i-init c = (omega arith, sym (choose_none _), omega arith)
-
-pub overflow_add-next : goal.overflow_add-next
-overflow_add-next c = omega arith
-
-pub overflow_sub-factor : goal.overflow_sub-factor
-overflow_sub-factor c = omega arith
-
-pub nonzero_div-whole : goal.nonzero_div-whole
-nonzero_div-whole c = omega arith
-
-pub nonzero_div-factor : goal.nonzero_div-factor
-nonzero_div-factor c = omega arith
+loop-i-init c = sym (choose_none _)
 
 pub returns-then-factor-whole : goal.returns-then-factor-whole
 returns-then-factor-whole c = cut c.args.n c.args.k _ (c.loop-i.i + 1) c.nearer-j.ensures.0 c.nearer-j.ensures.1 (omega arith) (omega (arith, (turn (goal.at.returns-then-factor-whole c).In-loop-i).next, past _ _ _ (omega arith) c.if-factor-whole.true))
@@ -45,14 +30,8 @@ returns-then-factor-whole c = cut c.args.n c.args.k _ (c.loop-i.i + 1) c.nearer-
 pub overflow_mul-most : goal.overflow_mul-most
 overflow_mul-most c = omega (arith, first (goal.at.overflow_mul-most c).Else-factor-whole)
 
-pub nonzero_rem-rest : goal.nonzero_rem-rest
-nonzero_rem-rest c = omega arith
-
 pub overflow_mul-rest : goal.overflow_mul-rest
 overflow_mul-rest c = omega (arith, (turn (goal.at.overflow_mul-rest c).In-loop-i).small)
-
-pub nonzero_div-rest : goal.nonzero_div-rest
-nonzero_div-rest c = omega arith
 
 pub overflow_sub-most : goal.overflow_sub-most
 overflow_sub-most c = omega (arith, first (goal.at.overflow_sub-most c).Else-factor-whole)
@@ -63,14 +42,11 @@ returns-then-most-rest c = cut c.args.n c.args.k _ (c.loop-i.i + 1) c.nearer-j.e
 pub overflow_add-c : goal.overflow_add-c
 overflow_add-c c = omega (arith, first (goal.at.overflow_add-c c).Else-factor-whole)
 
-pub loop-i-smaller : goal.loop-i-smaller
-loop-i-smaller c = omega arith
-
 pub loop-i-preserved : goal.loop-i-preserved
-loop-i-preserved c = (omega arith, (turn (goal.at.loop-i-preserved c).In-loop-i).next, omega (arith, first (goal.at.loop-i-preserved c).Else-factor-whole))
+loop-i-preserved c = (turn (goal.at.loop-i-preserved c).In-loop-i).next
 
 pub returns : goal.returns
 returns c =
     let all : c.loop-i.i ≡ c.nearer-j.result = omega arith in
     held c.args.n c.args.k _ (omega arith)
-    (c.loop-i.invariant.1 ∙ ap (choose c.args.n) all ∙ sym (entry_is_choose _ _) ∙ c.nearer-j.ensures.0)
+    (c.loop-i.invariant ∙ ap (choose c.args.n) all ∙ sym (entry_is_choose _ _) ∙ c.nearer-j.ensures.0)

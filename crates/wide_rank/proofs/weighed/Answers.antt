@@ -1,6 +1,6 @@
 -- `wide_rank::weighed` meets its contract. Assumes nothing.
 use mathlib.Core.Path.{◌≡◌, sym, ap, ◌∙◌}
-use Prim.Native.Nat.{ℕ, ◌+◌, ◌-◌, ◌^◌, ◌≤◌, ◌<◌}
+use Prim.Native.Nat.{ℕ, ◌+◌, ◌^◌, ◌≤◌, ◌<◌}
 use native.Mathlib.Omega.{arith}
 use lib.ListN.{get_or, drop}
 use Rattle.pascal.specs.Choose.{choose}
@@ -23,7 +23,7 @@ turn : (c : After-shift) → c.loop-i.sum + (choose (get_or c.args.word.now c.lo
 turn c =
     omega (
       arith,
-      c.loop-i.invariant.2,
+      c.loop-i.invariant,
       rank-drop c.args.family c.args.word.now c.loop-i.i (omega arith),
       ap (λ (s : ℕ). choose (get_or c.args.word.now c.loop-i.i 0 + s) (c.loop-i.i + 1)) c.shift.ensures,
     )
@@ -31,20 +31,8 @@ turn c =
 weight : (c : Else-c) → c.at-c.result ≡ choose (get_or c.args.word.now c.loop-i.i 0 + c.shift.result) (c.loop-i.i + 1)
 weight c = told-held _ _ _ c.at-c.ensures c.if-c.false
 
-pub loop-i-init : goal.loop-i-init
-loop-i-init c = (omega arith, omega arith, omega arith)
-
-pub offset_bounds-word-i : goal.offset_bounds-word-i
-offset_bounds-word-i c = omega arith
-
-pub bounds-word-i : goal.bounds-word-i
-bounds-word-i c = omega arith
-
 pub overflow_add-s : goal.overflow_add-s
 overflow_add-s c = omega (arith, within (goal.at.overflow_add-s c).After-shift)
-
-pub overflow_add-i : goal.overflow_add-i
-overflow_add-i c = omega arith
 
 pub at-c-requires : goal.at-c-requires
 at-c-requires c = omega (arith, within (goal.at.at-c-requires c).After-shift)
@@ -54,27 +42,15 @@ returns-then-c c =
     let big : 2 ^ 64 ≤ rank_of c.args.family c.args.word.now = omega (arith, turn (goal.at.returns-then-c c).After-shift, told-big (get_or c.args.word.now c.loop-i.i 0 + c.shift.result) (c.loop-i.i + 1) _ (omega (arith, within (goal.at.returns-then-c c).After-shift)) c.at-c.ensures c.if-c.true) in
     sym (held-refuses _ big)
 
-pub overflow_sub-sum : goal.overflow_sub-sum
-overflow_sub-sum c = omega arith
-
 pub returns-then-sum-c : goal.returns-then-sum-c
 returns-then-sum-c c =
     let big : 2 ^ 64 ≤ rank_of c.args.family c.args.word.now = omega (arith, turn (goal.at.returns-then-sum-c c).After-shift, weight (goal.at.returns-then-sum-c c).Else-c, c.if-sum-c.true) in
     sym (held-refuses _ big)
 
-pub overflow_add-sum : goal.overflow_add-sum
-overflow_add-sum c = omega arith
-
-pub overflow_add-i-in-loop-i : goal.overflow_add-i-in-loop-i
-overflow_add-i-in-loop-i c = omega arith
-
-pub loop-i-smaller : goal.loop-i-smaller
-loop-i-smaller c = omega arith
-
 pub loop-i-preserved : goal.loop-i-preserved
-loop-i-preserved c = (omega arith, omega arith, omega (arith, turn (goal.at.loop-i-preserved c).After-shift, weight (goal.at.loop-i-preserved c).Else-c))
+loop-i-preserved c = omega (arith, turn (goal.at.loop-i-preserved c).After-shift, weight (goal.at.loop-i-preserved c).Else-c)
 
 pub returns : goal.returns
 returns c =
-    let e : c.loop-i.sum ≡ rank_of c.args.family c.args.word.now = omega (arith, c.loop-i.invariant.2, rank_end c.args.family c.args.word.now c.loop-i.i (omega arith)) in
+    let e : c.loop-i.sum ≡ rank_of c.args.family c.args.word.now = omega (arith, c.loop-i.invariant, rank_end c.args.family c.args.word.now c.loop-i.i (omega arith)) in
     ap gives e ∙ sym (held_gives (rank_of c.args.family c.args.word.now) (omega arith))

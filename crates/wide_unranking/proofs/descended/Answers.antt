@@ -22,14 +22,8 @@ after c =
 pub loop-s-init : goal.loop-s-init
 loop-s-init c = above_starts 64 128 _ _ _ c.requires.0 c.requires.1 c.requires.2
 
-pub overflow_sub-s : goal.overflow_sub-s
-overflow_sub-s c = omega arith
-
 pub at-c-requires : goal.at-c-requires
 at-c-requires c = omega (arith, c.loop-s.invariant.walk.low)
-
-pub overflow_sub-high : goal.overflow_sub-high
-overflow_sub-high c = omega arith
 
 pub overflow_shl-high : goal.overflow_shl-high
 overflow_shl-high c = omega (arith, c.loop-s.invariant.walk.low)
@@ -40,14 +34,8 @@ overflow_add-high c = record { fits = high_fits 64 64 _ _ _ _ _ _ (after (goal.a
 pub overflow_sub-i : goal.overflow_sub-i
 overflow_sub-i c = has-place _ _ _ _ _ _ _ _ _ c.loop-s.invariant (weight (goal.at.overflow_sub-i c).After-at-c) c.if-c-left.true
 
-pub loop-s-smaller-then-c-left : goal.loop-s-smaller-then-c-left
-loop-s-smaller-then-c-left c = omega arith
-
 pub loop-s-preserved-then-c-left : goal.loop-s-preserved-then-c-left
 loop-s-preserved-then-c-left c = after (goal.at.loop-s-preserved-then-c-left c).Then-c-left
-
-pub loop-s-smaller : goal.loop-s-smaller
-loop-s-smaller c = omega arith
 
 pub loop-s-preserved : goal.loop-s-preserved
 loop-s-preserved c = above_passed _ _ _ _ _ _ _ _ _ (omega arith) c.loop-s.invariant (weight (goal.at.loop-s-preserved c).After-at-c) (omega arith)

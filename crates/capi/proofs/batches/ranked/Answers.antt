@@ -1,5 +1,5 @@
 use mathlib.Core.Path.{refl}
 use Rattle.capi.proofs.batches.ranked.Goals as goal
 
-pub returns-in-Refused : goal.returns-in-Refused
-returns-in-Refused c = simp (c.in-Refused.is, c.number-number.ensures) record { back = refl; holds = refl }
+pub returns-in-Err : goal.returns-in-Err
+returns-in-Err c = simp (c.in-Err.is, c.number-number.ensures) record { back = refl; holds = refl }

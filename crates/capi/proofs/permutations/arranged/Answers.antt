@@ -1,8 +1,8 @@
 use mathlib.Core.Path.{refl}
 use Rattle.capi.proofs.permutations.arranged.Goals as goal
 
-pub returns-in-Given : goal.returns-in-Given
-returns-in-Given c = simp (c.in-Given.is, c.answer.ensures) record { back = refl; holds = refl; long = refl }
+pub returns-in-Ok : goal.returns-in-Ok
+returns-in-Ok c = simp (c.in-Ok.is, c.answer.ensures) record { back = refl; holds = refl; long = refl }
 
-pub returns-in-Refused : goal.returns-in-Refused
-returns-in-Refused c = simp (c.in-Refused.is, c.refused.ensures) record { back = refl; holds = refl; long = refl }
+pub returns-in-Err : goal.returns-in-Err
+returns-in-Err c = simp (c.in-Err.is, c.refused.ensures) record { back = refl; holds = refl; long = refl }

@@ -1,9 +1,17 @@
-use mathlib.Core.Path.{◌∙◌, ap}
+use mathlib.Core.Path.{ap, ◌∙◌}
+use Rattle.permutation.specs.Record.{recorded}
 use Rattle.permutation_order.specs.Rules.{arrangement_successor_says}
-use Rattle.boundary.specs.Boundary.{status}
-use Rattle.capi.proofs.Entries.{told_of, stored-part}
+use Rattle.boundary.specs.Boundary.{status, stored}
+use Rattle.capi.specs.Permutations.{lent_as}
+use Rattle.capi.proofs.Entries.{status-recorded, stored-part}
 use Rattle.capi.proofs.permutations.gudrenoss_permutation_successor.Goals as goal
 
 pub returns : goal.returns
 returns c =
-    let h = told_of arrangement_successor_says _ _ _ c.lent.ensures c.successor.ensures in record { back = c.arranged.ensures.back ∙ ap (λ s. status s) h.says; holds = c.arranged.ensures.holds ∙ stored-part (λ p. p.entries) _ _ _ h; long = c.arranged.ensures.long ∙ stored-part (λ p. p.len) _ _ _ h }
+    let s = arrangement_successor_says (lent_as c.args.p.now c.args.n) in
+    let e = c.successor.ensures ∙ ap (λ p. recorded (arrangement_successor_says p)) c.lent.ensures in
+    record {
+      back = c.arranged.ensures.back ∙ ap (λ t. status t) e ∙ status-recorded s;
+      holds = c.arranged.ensures.holds ∙ ap (λ t. stored (λ p. p.entries) t c.args.entries.now) e ∙ stored-part (λ p. p.entries) s c.args.entries.now;
+      long = c.arranged.ensures.long ∙ ap (λ t. stored (λ p. p.len) t c.args.len.now) e ∙ stored-part (λ p. p.len) s c.args.len.now;
+    }

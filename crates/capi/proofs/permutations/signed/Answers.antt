@@ -1,5 +1,5 @@
 use mathlib.Core.Path.{refl}
 use Rattle.capi.proofs.permutations.signed.Goals as goal
 
-pub returns-in-Refused : goal.returns-in-Refused
-returns-in-Refused c = simp (c.in-Refused.is, c.refused.ensures) record { back = refl; holds = refl }
+pub returns-in-Err : goal.returns-in-Err
+returns-in-Err c = simp (c.in-Err.is, c.refused.ensures) record { back = refl; holds = refl }

@@ -1,4 +1,4 @@
--- `deletion::removed` meets its contract: each arm has the digits of the word without position p. Assumes nothing.
+-- `deletion::without_symbol` meets its contract: each arm has the digits of the word without position p. Assumes nothing.
 use mathlib.Core.Path.{◌≡◌, refl, sym, ap}
 use mathlib.Core.Bool.{true}
 use native.Mathlib.Omega.{arith}
@@ -13,7 +13,7 @@ use Rattle.answers.specs.Terms.{word_of}
 use Rattle.answers.proofs.Terms.{word_long}
 use Rattle.packing.proofs.Symbols.{symbol-shift}
 use Rattle.deletion.proofs.Deleting.{symbol_below, deletion_gives}
-use Rattle.deletion.proofs.removed.Goals as goal
+use Rattle.deletion.proofs.without_symbol.Goals as goal
 
 pub returns-then-count_ones-p : goal.returns-then-count_ones-p
 returns-then-count_ones-p c =
