@@ -71,7 +71,7 @@ def read(archive):
             if not amount:
                 sys.exit(f"measure: {here.name} moves its stack pointer by no constant: {args}")
             moved += int(amount.group(1), 16)
-        elif op == "cmp" and "%rsp" in args:
+        elif op == "cmp" and re.search(r"(?<!\()%rsp", args):
             sys.exit(f"measure: {here.name} moves its stack pointer in a loop, as for a frame of many pages: {op} {args}")
         elif args.endswith(",%rsp") and op not in ("add", "cmp", "test", "lea", "mov"):
             sys.exit(f"measure: {here.name} changes its stack pointer: {op} {args}")
