@@ -1,17 +1,22 @@
--- `permutation_group::inverse` meets its contract: the refusal of the check is passed on, and the inverse is given. Assumes nothing.
+-- `permutation_group::inverse` meets its contract: each return by the tests that led there. Assumes nothing.
 use mathlib.Core.Path.{sym, ◌∙◌}
+use borrow.Author.Tests.{lt-ltb, le-ltb}
 use borrow.Author.Rules.{rules}
-use Rattle.answers.proofs.Says.{passed_on}
-use Rattle.permutation.proofs.Taken.{taken_holds, verdict-refuses, verdict-gives}
+use Rattle.permutation.specs.Rules.{taken_arrangement}
+use Rattle.permutation.proofs.Taken.{tested_holds}
 use Rattle.permutation_group.proofs.inverse.Goals as goal
 
-pub returns-in_err-checked : goal.returns-in_err-checked
-returns-in_err-checked c =
-    passed_on c.from_residual.result _ c.from_residual.ensures.1
-    ∙ sym (simp (verdict-refuses c.args.p _ c.checked.ensures _ c.in_err-checked.was))
+pub returns-then-n : goal.returns-then-n
+unfolding taken_arrangement
+returns-then-n c = simp (lt-ltb _ _ c.if-n.true)
+
+pub returns-then-not-is_good : goal.returns-then-not-is_good
+unfolding taken_arrangement
+returns-then-not-is_good c = simp (le-ltb _ _ c.if-n.false, sym c.is_good.ensures ∙ c.if-not-is_good.true)
 
 pub inverted-requires : goal.inverted-requires
-inverted-requires c = verdict-gives c.args.p _ c.checked.ensures _ c.in_ok-checked.was (search rules)
+inverted-requires c = tested_holds c.args.p (search rules) c.if-n.false (sym c.is_good.ensures ∙ c.if-not-is_good.false)
 
 pub returns : goal.returns
-returns c = simp (taken_holds c.args.p (verdict-gives c.args.p _ c.checked.ensures _ c.in_ok-checked.was (search rules)), c.inverted.ensures)
+unfolding taken_arrangement
+returns c = simp (le-ltb _ _ c.if-n.false, sym c.is_good.ensures ∙ c.if-not-is_good.false, c.inverted.ensures)
