@@ -2,9 +2,8 @@
 --   Runs bits left top t    t numbers after the lowest one are counted, the last of them is top, and left are those above it
 --   runs_start    before the first
 --   Turn bits left top t s    what the lowest number s of left brings: the run ends, or goes on
---   runs_turn    so it is
---   Counts bits left top t k    as many numbers are left as k has more than t
---   some_left, runs_end    so there is one while t is below k, and the run ends where nothing is left
+--   runs_turn, runs_end    so it is; and the run ends where nothing is left
+--   runs_few    and 64 numbers do not follow the lowest one
 use mathlib.Core.Path.{◌≡◌, refl, sym, ap, subst, ◌∙◌}
 use mathlib.Core.Bool.{Bool, true, false}
 use mathlib.Core.List.{List, [], ◌∷◌}
@@ -25,6 +24,7 @@ pub record Runs (bits left top t : ℕ) : Type 0 where
   pub all : t + run (top ∷ set_bits left) ≡ run (set_bits bits)
   pub monotone : Monotone Forbidden (top ∷ set_bits left)
   pub low : Below 64 (top ∷ set_bits left)
+  pub few : t ≤ top
 
 no_set : (a : ℕ) → set_bits a ≡ [] → a ≡ 0
 unfolding bits_of
@@ -42,6 +42,7 @@ runs_start bits left top p h e f = go (set_bits bits) refl
           all = omega (arith, ap run s);
           monotone = subst (Monotone Forbidden) (sym s) (set-bits-monotone bits);
           low = subst (Below 64) (sym s) (below_of_bits 64 (set_bits bits) (subst (λ (m : ℕ). m < 2 ^ 64) (sym (bits_of_set bits)) h));
+          few = omega arith;
         }
 
 pub record Turn (bits left top t s : ℕ) : Type 0 where
@@ -72,6 +73,7 @@ runs_turn bits left top t s r n e = go (set_bits left) refl
                 all = on a (le-ltb (suc top) y (omega (arith, x))) (ap run (sym v));
                 monotone = subst (Monotone Forbidden) v m.1;
                 low = subst (Below 64) v b.1;
+                few = omega (arith, r.few);
               };
           less = λ k f. omega (arith, ap length q, ap length (f ∙ ap (drop 1) q));
         }
@@ -82,24 +84,9 @@ runs_turn bits left top t s r n e = go (set_bits left) refl
         on : t + pick (ltb (suc top) y) 0 (suc (run (y ∷ ys))) ≡ run (set_bits bits) → ltb (suc top) y ≡ false → {j : ℕ} → j ≡ run (y ∷ ys) → t + 1 + j ≡ run (set_bits bits)
         on a f g = omega (arith, a, g, ap (λ (x : Bool). pick x 0 (suc (run (y ∷ ys)))) f)
 
--- ---- as many turns as numbers
-
-pub record Counts (bits left top t k : ℕ) : Type 0 where
-  pub runs : Runs bits left top t
-  pub rest : t + length (set_bits left) ≡ k
-
-pub some_left : (bits left top t k : ℕ) → Counts bits left top t k → t < k → left ≡ 0 → ⊥
-some_left bits left top t k c h z = omega (arith, h, c.rest, ap length (ap set_bits z ∙ set-bits-zero))
-
-none_left : (bits left top t k : ℕ) → Counts bits left top t k → k ≤ t → set_bits left ≡ []
-none_left bits left top t k c h = go (set_bits left) refl
-  where
-    go : (w : List ℕ) → set_bits left ≡ w → w ≡ []
-    go [] q = refl
-    go (y ∷ ys) q = absurd (omega (arith, h, c.rest, ap length q))
-
-pub runs_end : (bits left top t k : ℕ) → Counts bits left top t k → k ≤ t → k ≡ run (set_bits bits)
+pub runs_end : (bits left top t : ℕ) → Runs bits left top t → left ≡ 0 → t ≡ run (set_bits bits)
 unfolding run
-runs_end bits left top t k c h =
-    let e : set_bits left ≡ [] = none_left bits left top t k c h in
-    omega (arith, c.runs.all, c.rest, ap length e, ap (λ (v : List ℕ). run (top ∷ v)) e)
+runs_end bits left top t r z = omega (arith, r.all, ap (λ (v : List ℕ). run (top ∷ v)) (ap set_bits z ∙ set-bits-zero))
+
+pub runs_few : (bits left top t : ℕ) → Runs bits left top t → 64 ≤ t → ⊥
+runs_few bits left top t r h = omega (arith, h, r.few, r.low.0)
