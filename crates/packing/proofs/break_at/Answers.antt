@@ -18,7 +18,7 @@ returns-then-not-may_follow c =
     let w : List ℕ = c.args.w.now in
     let i : ℕ = c.loop-i.i in
     let s : steps c.args.f (get_or w (i - 1) 0) (get_or w i 0) ≡ false = sym c.may_follow.ensures ∙ c.if-not-may_follow.true in
-    sym (c.loop-i.invariant.1 ∙ break_turn _ w i c.loop-i.auto.i c.loop-i-test.true ∙ ap (λ t. pick t (break_from c.args.f i (drop i w)) i) s)
+    sym (c.loop-i.invariant.1 ∙ break_turn _ w i c.loop-i.auto.i (omega (arith, c.loop-i-test.true)) ∙ ap (λ t. pick t (break_from c.args.f i (drop i w)) i) s)
 
 pub loop-i-preserved : goal.loop-i-preserved
 loop-i-preserved c =
@@ -27,7 +27,7 @@ loop-i-preserved c =
     let s : steps c.args.f (get_or w (i - 1) 0) (get_or w i 0) ≡ true = sym c.may_follow.ensures ∙ c.if-not-may_follow.false in
     let e : i ≡ i + 1 - 1 = omega arith in (
       omega (arith, c.loop-i-test.true),
-      c.loop-i.invariant.1 ∙ break_turn _ w i c.loop-i.auto.i c.loop-i-test.true ∙ ap (λ t. pick t (break_from c.args.f i (drop i w)) i) s ∙ ap (λ (j : ℕ). break_from c.args.f j (drop j w)) e,
+      c.loop-i.invariant.1 ∙ break_turn _ w i c.loop-i.auto.i (omega (arith, c.loop-i-test.true)) ∙ ap (λ t. pick t (break_from c.args.f i (drop i w)) i) s ∙ ap (λ (j : ℕ). break_from c.args.f j (drop j w)) e,
     )
 
 pub returns : goal.returns
