@@ -1,17 +1,29 @@
-use mathlib.Core.Path.{ap, ◌∙◌}
-use Rattle.permutation.specs.Record.{recorded}
+use mathlib.Core.Path.{sym, ap, ◌∙◌}
+use borrow.Author.Rules.{rules}
+use Rattle.permutation.proofs.Taken.{verdict-gives}
 use Rattle.permutation_group.specs.Rules.{inverse_says}
 use Rattle.boundary.specs.Boundary.{status, stored}
-use Rattle.capi.specs.Permutations.{lent_as}
-use Rattle.capi.proofs.Entries.{status-recorded, stored-part}
+use Rattle.capi.specs.Permutations.{entries_of, length_of}
+use Rattle.capi.proofs.Entries.{inverse-refuses, inverse-gives}
 use Rattle.capi.proofs.permutations.gudrenoss_permutation_inverse.Goals as goal
 
-pub returns : goal.returns
-returns c =
-    let s = inverse_says (lent_as c.args.p.now c.args.n) in
-    let e = c.inverse.ensures ∙ ap (λ p. recorded (inverse_says p)) c.lent.ensures in
+pub inverted-requires : goal.inverted-requires
+inverted-requires c = verdict-gives _ _ c.checked.ensures _ c.in-Ok.is (search rules)
+
+pub returns-in-Ok : goal.returns-in-Ok
+returns-in-Ok c =
+    let e = ap inverse_says (sym c.lent-q.ensures) ∙ inverse-gives _ (verdict-gives _ _ c.checked.ensures _ c.in-Ok.is (search rules)) in
     record {
-      back = c.arranged.ensures.back ∙ ap (λ t. status t) e ∙ status-recorded s;
-      holds = c.arranged.ensures.holds ∙ ap (λ t. stored (λ p. p.entries) t c.args.entries.now) e ∙ stored-part (λ p. p.entries) s c.args.entries.now;
-      long = c.arranged.ensures.long ∙ ap (λ t. stored (λ p. p.len) t c.args.len.now) e ∙ stored-part (λ p. p.len) s c.args.len.now;
+      back = c.handed.ensures.back ∙ sym (ap (λ t. status t) e);
+      holds = c.handed.ensures.holds ∙ ap (λ r. r.entries) c.inverted.ensures ∙ sym (ap (λ t. stored entries_of t c.args.entries.now) e);
+      long = c.handed.ensures.long ∙ ap (λ r. r.len) c.inverted.ensures ∙ sym (ap (λ t. stored length_of t c.args.len.now) e);
+    }
+
+pub returns-in-Err : goal.returns-in-Err
+returns-in-Err c =
+    let e = ap inverse_says (sym c.lent-q.ensures) ∙ inverse-refuses _ _ c.checked.ensures _ c.in-Err.is in
+    record {
+      back = c.refused.ensures ∙ sym (ap (λ t. status t) e);
+      holds = sym (ap (λ t. stored entries_of t c.args.entries.now) e);
+      long = sym (ap (λ t. stored length_of t c.args.len.now) e);
     }
